@@ -1,0 +1,16 @@
+-- The thirteen rows of 01's table are answered as it says: antt computes both sides of the whole table.
+-- Assumes nothing.
+use mathlib.Core.List.{map}
+use mathlib.Core.Path.{_≡_, refl}
+use Rattle.chart.specs.Executing.{prune, follows}
+use Rattle.chart.specs.Searching.{tries, explore}
+use Rattle.chart.specs.Lending.{Answer, spend, answer}
+use Rattle.chart.specs.Rows.{Row, rows}
+
+-- What a row's chart and log are answered under its lending.
+abbrev pub answered : Row → Answer
+answered r = answer (r .chart) (r .log) (r .allowance) (r .room)
+
+pub rows-are-answered-as-expected : map answered rows ≡ map (λ r. r .expected) rows
+unfolding rows answer spend explore tries follows prune
+rows-are-answered-as-expected = refl

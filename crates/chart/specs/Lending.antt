@@ -1,0 +1,55 @@
+-- The answer to a chart and a log under an allowance of steps and a room of places.
+-- Assumes nothing.
+use Prim.Native.Nat.{ℕ, zero, suc, max}
+use mathlib.Core.Bool.{Bool, true, false, cond}
+use mathlib.Core.List.{List, [], _∷_}
+use lib.Dec.{eqb, leb, ltb}
+use lib.ListN.{length}
+use Rattle.chart.specs.Action.{Log}
+use Rattle.chart.specs.Chart.{Chart, size}
+use Rattle.chart.specs.Searching.{Outcome, accepted, refused, searched, runOf}
+
+-- What a judgment returns (01, Verdicts and numbers given).
+pub record Answer : Type 0 where
+  pub number : ℕ
+  pub place : ℕ
+  pub steps : ℕ
+  pub places : ℕ
+
+-- A search under way, with the steps made and the most places in use so far; or stopped, with its number.
+pub data Spending : Type 0 where
+  going : (steps places : ℕ) → Spending
+  stopped : (number steps places : ℕ) → Spending
+
+-- Before each follow-up 9, "a follow-up is wanted and the allowance is spent", then 10, "the next whole follow-up exceeds the
+-- usable room"; else it is made: one step more, and n places in use (01, Verdicts and numbers given).
+-- (whether the allowance is spent, whether n exceeds the room)
+abbrev pub followUp : Bool → Bool → ℕ → ℕ → ℕ → Spending
+followUp true exceeds n steps places = stopped 9 steps places
+followUp false true n steps places = stopped 10 steps places
+followUp false false n steps places = going (suc steps) (max places n)
+
+-- The run spent against the allowance and the room: it stops for good at the first follow-up that may not be made.
+unfoldable pub spend : ℕ → ℕ → Spending → List ℕ → Spending
+spend allowance room now [] = now
+spend allowance room (stopped number steps places) (n ∷ run) = stopped number steps places
+spend allowance room (going steps places) (n ∷ run) =
+    spend allowance room (followUp (leb allowance steps) (ltb room n) n steps places) run
+
+-- The verdict on a log of some length: 20 accepted and 21 short give the log's length, 22 deviates the deepest opening.
+abbrev pub verdict : ℕ → Outcome → ℕ → ℕ → Answer
+verdict long (accepted run) s p = record { number = 20; place = long; steps = s; places = p }
+verdict long (refused deepest run) s p = record { number = cond (ltb deepest long) 22 21; place = deepest; steps = s; places = p }
+
+-- A search that was stopped has no verdict: number 9 or 10, place 0, and the figures reached so far.
+abbrev pub ended : ℕ → Outcome → Spending → Answer
+ended long outcome (going s p) = verdict long outcome s p
+ended long outcome (stopped number s p) = record { number = number; place = 0; steps = s; places = p }
+
+-- The answer. A chart that exceeds the room gets 10 with no figures, before any follow-up.
+unfoldable pub answer : Chart → Log → ℕ → ℕ → Answer
+answer c t allowance room =
+    cond
+    (ltb room (size c))
+    (record { number = 10; place = 0; steps = 0; places = 0 })
+    (ended (length t) (searched c t) (spend allowance room (going 0 (size c)) (runOf (searched c t))))
