@@ -5,4 +5,9 @@ pub mod Pruning
 pub mod Looping
 pub mod Choices
 pub mod Following
+pub mod Exploring
+pub mod Extending
+pub mod Spending
+pub mod Answering
+pub mod Agreement
 pub mod Rows

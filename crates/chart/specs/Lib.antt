@@ -3,9 +3,11 @@
 pub mod Action
 pub mod Chart
 pub mod Traces
+pub mod Openings
 pub mod Published
 pub mod Member
 pub mod Executing
 pub mod Searching
 pub mod Lending
+pub mod Reaching
 pub mod Rows

@@ -1,9 +1,9 @@
 -- The search of a log in a chart, with nothing to stop it: its outcome, and its run, which fixes the figures.
 -- Assumes nothing.
-use Prim.Native.Nat.{ℕ, zero, suc, _+_, max}
+use Prim.Native.Nat.{ℕ, suc, _+_, max}
 use mathlib.Core.Bool.{cond}
 use mathlib.Core.List.{List, [], _∷_, _++_, foldr}
-use lib.ListN.{length}
+use lib.ListN.{length, take, getD}
 use Rattle.chart.specs.Action.{Log}
 use Rattle.chart.specs.Chart.{Chart, size}
 use Rattle.chart.specs.Executing.{Made, terminates, follows}
@@ -49,9 +49,17 @@ abbrev pub most : ℕ → List ℕ → ℕ
 most n run = foldr max n run
 
 -- The steps of a log on a chart: the follow-ups made (01, Figures).
-abbrev pub steps : Chart → Log → ℕ
-steps c t = length (runOf (searched c t))
+abbrev pub stepsOf : Chart → Log → ℕ
+stepsOf c t = length (runOf (searched c t))
 
 -- The places of a log on a chart: the most in use at one moment (01, Figures).
-abbrev pub places : Chart → Log → ℕ
-places c t = most (size c) (runOf (searched c t))
+abbrev pub placesOf : Chart → Log → ℕ
+placesOf c t = most (size c) (runOf (searched c t))
+
+-- The most places in use over the first k steps.
+abbrev pub placesAfter : Chart → Log → ℕ → ℕ
+placesAfter c t k = most (size c) (take k (runOf (searched c t)))
+
+-- The places that the follow-up after the first k steps would have in use.
+abbrev pub placesWanted : Chart → Log → ℕ → ℕ
+placesWanted c t k = getD (runOf (searched c t)) k 0

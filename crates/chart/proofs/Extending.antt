@@ -1,0 +1,44 @@
+-- Once a log deviates, going on with it changes nothing: the search never comes to the part that was added.
+--
+-- By induction on the log. If the deepest opening of all choices is short of the log's end, then so is that of each choice, and nobody looks
+-- at what stands beyond.
+-- Assumes nothing.
+use Prim.Native.Nat.{ℕ, suc, _+_, _<_, suc-le-suc}
+use native.Mathlib.Nat.{not-suc-le-zero, le-of-suc-le-suc, le-trans, le-max-left, le-max-right}
+use mathlib.Core.Bool.{Bool, true, false, cond}
+use mathlib.Core.List.{List, [], _∷_, _++_}
+use mathlib.Core.Path.{_≡_, refl, ap₂}
+use lib.ListN.{length}
+use Rattle.chart.specs.Action.{Log}
+use Rattle.chart.specs.Chart.{Chart}
+use Rattle.chart.specs.Executing.{Made, terminates, follows}
+use Rattle.chart.specs.Searching.{Outcome, accepted, refused, step, tries, explore}
+
+-- The search refused before it got through n actions.
+abbrev pub Deviates : ℕ → Outcome → Type 0
+Deviates n (accepted run) = ⊥
+Deviates n (refused deepest run) = deepest < n
+
+step-deviates : (n m : ℕ) (first rest : Outcome) → Deviates (suc n) (step m first rest) → Deviates n first × Deviates (suc n) rest
+step-deviates n m (refused d run) (refused e more) h =
+    (le-of-suc-le-suc (le-trans (suc-le-suc (le-max-left (suc d) e)) h), le-trans (suc-le-suc (le-max-right (suc d) e)) h)
+step-deviates n m (accepted run) rest h = absurd h
+step-deviates n m (refused d run) (accepted more) h = absurd h
+
+tries-extend : (go on : Chart → ℕ → Outcome) (n used : ℕ) (xs : List Made) → ((x : Chart) (m : ℕ) → Deviates n (go x m) → on x m ≡ go x m) → Deviates (suc n) (tries go used xs) → tries on used xs ≡ tries go used xs
+unfolding tries
+tries-extend go on n used [] f h = refl
+tries-extend go on n used (x ∷ xs) f h =
+    let m = used + x .cost in
+    let (p, q) = step-deviates n m (go (x .chart) m) (tries go used xs) h in
+    ap₂ (step m) (f (x .chart) m p) (tries-extend go on n used xs f q)
+
+pub explore-extends : (t u : Log) (c : Chart) (used : ℕ) → Deviates (length t) (explore t c used) → explore (t ++ u) c used ≡ explore t c used
+unfolding explore
+explore-extends [] u c used h = absurd (never (terminates c) h)
+  where
+    never : (p : Bool) → Deviates 0 (cond p (accepted []) (refused 0 [])) → ⊥
+    never true h = h
+    never false h = not-suc-le-zero h
+explore-extends (a ∷ t) u c used h =
+    tries-extend (λ x n. explore t x n) (λ x n. explore (t ++ u) x n) (length t) used (follows c a) (explore-extends t u) h
