@@ -2,18 +2,22 @@
 --
 -- Operator by operator, a deal is what document 000's equations give. A power of a set is that many rounds, so the closure is `Star`; and the
 -- restricted operator asks of a log that is not empty just what a round of the head loop is. The rest is induction on the chart.
+-- Last, what evading and pruning mean, of the published sets.
 -- Assumes nothing.
 use Prim.Native.Nat.{ℕ, zero, suc}
 use mathlib.Core.List.{[], _∷_, _++_, head-eq-of-cons-eq, tail-eq-of-cons-eq}
-use mathlib.Core.Logic.{_↔_, _⊎_, inl, inr, ⊎-map}
+use mathlib.Core.Logic.{_↔_, _⊎_, inl, inr, ⊎-map, Iff·rfl, Iff·symm, Iff·trans, Iff·and}
 use mathlib.Core.Path.{_≡_, refl, sym, ap, subst, subst₂}
-use Rattle.chart.specs.Action.{Action, Log, Clear}
+use lib.Dec.{T}
+use Rattle.chart.specs.Action.{Action, Log, Avoids, Clear}
 use Rattle.chart.specs.Chart.{Order, strict, seq, par, Loop, each, head, Chart, empty, act, alt, pair, loop}
 use Rattle.chart.specs.Traces.{Traces, Operator, Only, only, Joined, joined}
 use Rattle.chart.specs.Published.{Woven, left-empty, right-empty, first-left, first-right, Conflict, scheduling, power, closure, restricted, Published, weakSequencing}
 use Rattle.chart.specs.Member.{May, Deal, done, left, right, Round, dealt, headed, Star, none, more, Member}
+use Rattle.chart.specs.Executing.{evades, prune}
 use Rattle.chart.proofs.Deals.{deal-all-left, deal-all-right, deal-appended, deal-strict-is-appended}
-use Rattle.chart.proofs.Choices.{joined-implies}
+use Rattle.chart.proofs.Evading.{evades→, evades←}
+use Rattle.chart.proofs.Pruning.{prune-keeps}
 
 -- ---- conflicts
 
@@ -130,3 +134,16 @@ published-iff-member (pair o l r) t =
     pair-agrees o (Published l) (Published r) (Member l) (Member r) (published-iff-member l) (published-iff-member r) t
 published-iff-member (loop (each o) b) t = kleene-agrees o (Published b) (Member b) (published-iff-member b) t
 published-iff-member (loop head b) t = head-agrees (Published b) (Member b) (published-iff-member b) t
+
+-- ---- evading and pruning, of the published sets
+
+-- (000, Lemma 5)
+pub evades-iff-some-published-log-avoids : (c : Chart) (d : ℕ) → T (evades c d) ↔ ((t : Log) × Published c t × Avoids d t)
+evades-iff-some-published-log-avoids c d =
+    (λ h. let (t, m, e) = evades→ c d h in (t, published-iff-member c t .1 m, e), λ w. evades← c d (w .0) (published-iff-member c (w .0) .0 (w .1)) (w .2))
+
+-- (000, Lemma 7)
+pub prune-keeps-published : (c : Chart) (d : ℕ) → T (evades c d) → (t : Log) → Published (prune c d .chart) t ↔ (Published c t × Avoids d t)
+prune-keeps-published c d h t =
+    Iff·trans (published-iff-member (prune c d .chart) t)
+    (Iff·trans (prune-keeps c d h t) (Iff·and (Iff·symm (published-iff-member c t)) Iff·rfl))

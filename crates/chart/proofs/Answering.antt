@@ -16,13 +16,9 @@ use lib.Seq.{take-length}
 use Rattle.chart.specs.Action.{Log}
 use Rattle.chart.specs.Chart.{Chart, size}
 use Rattle.chart.specs.Searching.{Outcome, accepted, refused, searched, runOf, most, stepsOf, placesOf, placesAfter, placesWanted}
-use Rattle.chart.specs.Lending.{Answer, Spending, going, stopped, spend, verdict, ended, answer}
+use Rattle.chart.specs.Lending.{Answer, Spending, going, stopped, spend, unaccepted, verdict, halted, ended, answer}
 use Rattle.chart.specs.Reaching.{Reaches, Verdict, Wants, Exceeds}
 use Rattle.chart.proofs.Spending.{Spent, through, spent, full, spend-law}
-
--- An answer with no verdict.
-abbrev pub halted : ℕ → ℕ → ℕ → Answer
-halted number steps places = record { number = number; place = 0; steps = steps; places = places }
 
 -- The four cases, each with its answer.
 pub data Case (c : Chart) (t : Log) (allowance room : ℕ) (r : Answer) : Type 0 where
@@ -116,13 +112,13 @@ verdict-is-not n m (inl v) e h = omega arith
 verdict-is-not n m (inr (inl v)) e h = omega arith
 verdict-is-not n m (inr (inr v)) e h = omega arith
 
-refused-number : (p : Bool) → Verdict (cond p 22 21)
-refused-number true = inr (inr refl)
-refused-number false = inr (inl refl)
+unaccepted-number : (p : Bool) → Verdict (unaccepted p)
+unaccepted-number true = inr (inr refl)
+unaccepted-number false = inr (inl refl)
 
 verdict-number : (long : ℕ) (o : Outcome) (s p : ℕ) → Verdict (verdict long o s p .number)
 verdict-number long (accepted run) s p = inl refl
-verdict-number long (refused deepest run) s p = refused-number (ltb deepest long)
+verdict-number long (refused deepest run) s p = unaccepted-number (ltb deepest long)
 
 -- an answer's number, where the answer is known
 number-is : {q r : Answer} → q ≡ r → q .number ≡ r .number
@@ -148,6 +144,14 @@ module _ (c : Chart) (t : Log) (allowance room : ℕ) where
       by-case q (reached h e) v = h
       by-case q (nine w e) v = absurd (verdict-is-not (q .number) 9 v (number-is e) (lit< tt))
       by-case q (ten k x e) v = absurd (verdict-is-not (q .number) 10 v (number-is e) (lit< tt))
+
+  -- What holds of the verdict holds of the answer, where the lending reaches,
+  pub of-verdict : (P : Answer → Type 0) → Reaches c t allowance room → P (verdict (length t) (searched c t) (stepsOf c t) (placesOf c t)) → P (answer c t allowance room)
+  of-verdict P r h = subst P (sym (reached-answer r)) h
+
+  -- so that a verdict comes.
+  pub reaches-verdict : Reaches c t allowance room → Verdict (answer c t allowance room .number)
+  reaches-verdict r = of-verdict (λ q. Verdict (q .number)) r (verdict-number (length t) (searched c t) (stepsOf c t) (placesOf c t))
 
   -- The allowance is spent when the next follow-up is wanted: 9, with the figures reached.
   pub spent-answer : Wants c t room allowance → answer c t allowance room ≡ halted 9 allowance (placesAfter c t allowance)
@@ -188,6 +192,10 @@ module _ (c : Chart) (t : Log) (allowance room : ℕ) where
       by-case q (nine w e) = absurd (nine-is-not-ten c t allowance room k w x)
       by-case q (ten j y e) = e ∙ ap (λ (m : ℕ). halted 10 m (placesAfter c t m)) (exceeds-once c t allowance room j k y x)
 
+  pub exceeds-ten : (room < size c) ⊎ ((k : ℕ) × Exceeds c t allowance room k) → answer c t allowance room .number ≡ 10
+  exceeds-ten (inl l) = number-is (too-large-answer l)
+  exceeds-ten (inr (k, x)) = number-is (exceeded-answer k x)
+
   pub ten-exceeds : answer c t allowance room .number ≡ 10 → (room < size c) ⊎ ((k : ℕ) × Exceeds c t allowance room k)
   ten-exceeds n = by-case _ (answer-case c t allowance room) n
     where
@@ -196,3 +204,13 @@ module _ (c : Chart) (t : Log) (allowance room : ℕ) where
       by-case q (reached h e) n = absurd (verdict-is-not (q .number) 10 (subst Verdict (sym (number-is e)) (verdict-number (length t) (searched c t) (stepsOf c t) (placesOf c t))) n (lit< tt))
       by-case q (nine w e) n = let m = number-is e in absurd (omega arith)
       by-case q (ten k x e) n = inr (k, x)
+
+  -- There is no other number.
+  pub no-other-number : Verdict (answer c t allowance room .number) ⊎ (answer c t allowance room .number ≡ 9) ⊎ (answer c t allowance room .number ≡ 10)
+  no-other-number = by-case (answer-case c t allowance room)
+    where
+      by-case : Case c t allowance room (answer c t allowance room) → Verdict (answer c t allowance room .number) ⊎ (answer c t allowance room .number ≡ 9) ⊎ (answer c t allowance room .number ≡ 10)
+      by-case (too-large h e) = inr (inr (number-is e))
+      by-case (reached r e) = inl (reaches-verdict r)
+      by-case (nine w e) = inr (inl (number-is e))
+      by-case (ten k x e) = inr (inr (number-is e))

@@ -3,16 +3,19 @@
 -- By induction on the log. If the deepest opening of all choices is short of the log's end, then so is that of each choice, and nobody looks
 -- at what stands beyond.
 -- Assumes nothing.
-use Prim.Native.Nat.{ℕ, suc, _+_, _<_, suc-le-suc}
-use native.Mathlib.Nat.{not-suc-le-zero, le-of-suc-le-suc, le-trans, le-max-left, le-max-right}
+use Prim.Native.Nat.{ℕ, suc, _+_, _≤_, _<_, suc-le-suc}
+use native.Mathlib.Nat.{not-suc-le-zero, le-of-suc-le-suc, le-trans, le-max-left, le-max-right, le-add-right}
 use mathlib.Core.Bool.{Bool, true, false, cond}
 use mathlib.Core.List.{List, [], _∷_, _++_}
-use mathlib.Core.Path.{_≡_, refl, ap₂}
-use lib.ListN.{length}
+use mathlib.Core.Path.{_≡_, refl, sym, ap, ap₂, _∙_, subst}
+use lib.Dec.{ltb, lt→ltb}
+use lib.ListN.{length, length-append}
 use Rattle.chart.specs.Action.{Log}
-use Rattle.chart.specs.Chart.{Chart}
+use Rattle.chart.specs.Chart.{Chart, size}
 use Rattle.chart.specs.Executing.{Made, terminates, follows}
-use Rattle.chart.specs.Searching.{Outcome, accepted, refused, step, tries, explore}
+use Rattle.chart.specs.Searching.{Outcome, accepted, refused, step, tries, explore, searched, runOf}
+use Rattle.chart.specs.Lending.{Spending, going, stopped, spend, unaccepted, halted, ended, concluded, answer}
+use Rattle.chart.proofs.Tests.{passes}
 
 -- The search refused before it got through n actions.
 abbrev pub Deviates : ℕ → Outcome → Type 0
@@ -42,3 +45,30 @@ explore-extends [] u c used h = absurd (never (terminates c) h)
     never false h = not-suc-le-zero h
 explore-extends (a ∷ t) u c used h =
     tries-extend (λ x n. explore t x n) (λ x n. explore (t ++ u) x n) (length t) used (follows c a) (explore-extends t u) h
+
+-- ---- the answer
+
+-- a verdict on a log that deviates does not look at how long the log is
+unaccepted-extends : (d long more : ℕ) → d < long → long ≤ more → unaccepted (ltb d more) ≡ unaccepted (ltb d long)
+unaccepted-extends d long more h g =
+    ap unaccepted (passes (ltb d more) (lt→ltb d more (le-trans h g)) ∙ sym (passes (ltb d long) (lt→ltb d long h)))
+
+ended-extends : (long more : ℕ) (o : Outcome) (end : Spending) → Deviates long o → long ≤ more → ended more o end ≡ ended long o end
+ended-extends long more o (stopped number s p) h g = refl
+ended-extends long more (refused d run) (going s p) h g =
+    ap (λ (n : ℕ). record { number = n; place = d; steps = s; places = p }) (unaccepted-extends d long more h g)
+ended-extends long more (accepted run) (going s p) h g = absurd h
+
+concluded-extends : (nodes long more : ℕ) (o : Outcome) (allowance room : ℕ) → Deviates long o → long ≤ more
+    → concluded nodes more o allowance room ≡ concluded nodes long o allowance room
+concluded-extends nodes long more o allowance room h g =
+    ap (cond (ltb room nodes) (halted 10 0 0)) (ended-extends long more o (spend allowance room (going 0 nodes) (runOf o)) h g)
+
+-- A log that deviates and every longer log that begins with it get one answer, from every lending.
+pub answer-extends : (c : Chart) (t u : Log) (allowance room : ℕ) → Deviates (length t) (searched c t)
+    → answer c (t ++ u) allowance room ≡ answer c t allowance room
+unfolding answer
+answer-extends c t u allowance room h =
+    let longer = subst (λ (n : ℕ). length t ≤ n) (sym (length-append t u)) (le-add-right (length t) (length u)) in
+    ap (λ (o : Outcome). concluded (size c) (length (t ++ u)) o allowance room) (explore-extends t u c (size c) h)
+    ∙ concluded-extends (size c) (length t) (length (t ++ u)) (searched c t) allowance room h longer

@@ -10,4 +10,7 @@ pub mod Extending
 pub mod Spending
 pub mod Answering
 pub mod Agreement
+pub mod Judging
+pub mod Nesting
+pub mod Demands
 pub mod Rows

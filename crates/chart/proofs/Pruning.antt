@@ -14,7 +14,7 @@ use Rattle.chart.specs.Chart.{Order, Loop, Chart, empty, act, alt, pair,
 use Rattle.chart.specs.Traces.{Traces, Only, only, Joined, joined}
 use Rattle.chart.specs.Member.{Deal, Round, dealt, headed, Member, Star, none, more}
 use Rattle.chart.specs.Executing.{evades, Made, prunedAlt, prunedLoop, prune, letsPass, passed}
-use Rattle.chart.proofs.Tests.{both→, both←, either→}
+use Rattle.chart.proofs.Tests.{both→, either→, passes}
 use Rattle.chart.proofs.Deals.{deal-every→, deal-every←}
 use Rattle.chart.proofs.Evading.{evades→, evades←, on-another→}
 
@@ -127,10 +127,6 @@ prune-keeps (loop k b) d h = loop-keeps d k b (prune b d) (evades b d) (prune-ke
 -- What was pruned by d still evades d: the log that avoids d was kept.
 pub pruned-evades : (c : Chart) (d : ℕ) → T (evades c d) → T (evades (prune c d .chart) d)
 pruned-evades c d h = let (t, m, e) = evades→ c d h in evades← (prune c d .chart) d t (prune-keeps c d h t .1 (m, e)) e
-
-passes : (p : Bool) → T p → p ≡ true
-passes true h = refl
-passes false h = absurd h
 
 -- m is what pruning by d gives, and pruning by d gives it again
 abbrev Settled : ℕ → Made → Type 0

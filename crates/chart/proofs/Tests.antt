@@ -1,7 +1,8 @@
--- Tests that are joined by `&&`, `||` and `not`, as types and back; and a choice by a test.
+-- Tests that are joined by `&&`, `||` and `not`, as types and back.
 -- Assumes nothing.
 use mathlib.Core.Bool.{Bool, true, false, not, _&&_, _||_}
 use mathlib.Core.Logic.{_⊎_, inl, inr}
+use mathlib.Core.Path.{_≡_, refl}
 use lib.Dec.{T}
 
 pub both→ : (p q : Bool) → T (p && q) → T p × T q
@@ -24,7 +25,7 @@ pub either←right : (p q : Bool) → T q → T (p || q)
 either←right true q h = tt
 either←right false q h = h
 
--- A test passes or it does not.
-pub decided {ℓ} : (p : Bool) → {X : Type ℓ} → (T p → X) → (¬ T p → X) → X
-decided true f g = f tt
-decided false f g = g (λ h. h)
+-- a test that passes is true
+pub passes : (p : Bool) → T p → p ≡ true
+passes true h = refl
+passes false h = absurd h

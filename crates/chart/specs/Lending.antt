@@ -36,20 +36,31 @@ spend allowance room (stopped number steps places) (n ∷ run) = stopped number 
 spend allowance room (going steps places) (n ∷ run) =
     spend allowance room (followUp (leb allowance steps) (ltb room n) n steps places) run
 
+-- A log that was not accepted: 22 deviates if none of the paths got through it, else 21 short.
+abbrev pub unaccepted : Bool → ℕ
+unaccepted true = 22
+unaccepted false = 21
+
 -- The verdict on a log of some length: 20 accepted and 21 short give the log's length, 22 deviates the deepest opening.
 abbrev pub verdict : ℕ → Outcome → ℕ → ℕ → Answer
 verdict long (accepted run) s p = record { number = 20; place = long; steps = s; places = p }
-verdict long (refused deepest run) s p = record { number = cond (ltb deepest long) 22 21; place = deepest; steps = s; places = p }
+verdict long (refused deepest run) s p = record { number = unaccepted (ltb deepest long); place = deepest; steps = s; places = p }
 
--- A search that was stopped has no verdict: number 9 or 10, place 0, and the figures reached so far.
+-- An answer with no verdict has place 0.
+abbrev pub halted : ℕ → ℕ → ℕ → Answer
+halted number s p = record { number = number; place = 0; steps = s; places = p }
+
+-- A search that was stopped gets its number with the figures reached so far.
 abbrev pub ended : ℕ → Outcome → Spending → Answer
 ended long outcome (going s p) = verdict long outcome s p
-ended long outcome (stopped number s p) = record { number = number; place = 0; steps = s; places = p }
+ended long outcome (stopped number s p) = halted number s p
 
--- The answer. A chart that exceeds the room gets 10 with no figures, before any follow-up.
+-- A chart that exceeds the room gets 10 with no figures, before any follow-up.
+-- (nodes of the chart, length of the log, outcome of the search, allowance, room)
+abbrev pub concluded : ℕ → ℕ → Outcome → ℕ → ℕ → Answer
+concluded nodes long outcome allowance room =
+    cond (ltb room nodes) (halted 10 0 0) (ended long outcome (spend allowance room (going 0 nodes) (runOf outcome)))
+
+-- The answer to a chart and a log.
 unfoldable pub answer : Chart → Log → ℕ → ℕ → Answer
-answer c t allowance room =
-    cond
-    (ltb room (size c))
-    (record { number = 10; place = 0; steps = 0; places = 0 })
-    (ended (length t) (searched c t) (spend allowance room (going 0 (size c)) (runOf (searched c t))))
+answer c t allowance room = concluded (size c) (length t) (searched c t) allowance room
