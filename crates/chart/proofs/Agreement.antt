@@ -1,17 +1,17 @@
 -- The published sets are those that proofs work with: for every chart and log, Published and Member agree.
 --
--- Operator by operator, a deal is what document 000's equations give. A power of a set is that many rounds, so the closure is `Star`; and the
--- restricted operator asks of a log that is not empty just what a round of the head loop is. The rest is induction on the chart.
--- Last, what evading and pruning mean, of the published sets.
+-- Operator by operator, a deal is what document 000's equations give. A power of a set is that many rounds, so the
+-- closure is `Star`; and the restricted operator asks of a log that is not empty just what a round of the head loop
+-- is. The rest is induction on the chart. Last, what evading and pruning mean, of the published sets.
 -- Assumes nothing.
 use Prim.Native.Nat.{ℕ, zero, suc}
 use mathlib.Core.List.{[], _∷_, _++_, head-eq-of-cons-eq, tail-eq-of-cons-eq}
-use mathlib.Core.Logic.{_↔_, _⊎_, inl, inr, ⊎-map, Iff·rfl, Iff·symm, Iff·trans, Iff·and}
-use mathlib.Core.Path.{_≡_, refl, sym, ap, subst, subst₂}
+use mathlib.Core.Logic.{_↔_, inl, inr, ⊎-map, Iff·rfl, Iff·symm, Iff·trans, Iff·and}
+use mathlib.Core.Path.{refl, subst, subst₂}
 use lib.Dec.{T}
 use Rattle.chart.specs.Action.{Action, Log, Avoids, Clear}
 use Rattle.chart.specs.Chart.{Order, strict, seq, par, Loop, each, head, Chart, empty, act, alt, pair, loop}
-use Rattle.chart.specs.Traces.{Traces, Operator, Only, only, Joined, joined}
+use Rattle.chart.specs.Traces.{Traces, Only, only, Joined, joined}
 use Rattle.chart.specs.Published.{Woven, left-empty, right-empty, first-left, first-right, Conflict, scheduling, power, closure, restricted, Published, weakSequencing}
 use Rattle.chart.specs.Member.{May, Deal, done, left, right, Round, dealt, headed, Star, none, more, Member}
 use Rattle.chart.specs.Executing.{evades, prune}
@@ -33,7 +33,8 @@ clear← (a ∷ s) d h = (λ c. h (inl c), clear← s d (λ c. h (inr c)))
 -- ---- operators
 
 -- weaving with a condition is dealing with the same condition
-woven→ : (o : Order) (free : Log → Action → Type 0) → ((s : Log) (a : Action) → free s a → May o s a) → {s u t : Log} → Woven free s u t → Deal o s u t
+woven→ : (o : Order) (free : Log → Action → Type 0) → ((s : Log) (a : Action) → free s a → May o s a) → {s u t : Log}
+    → Woven free s u t → Deal o s u t
 woven→ o free f (left-empty {t₂ = t₂}) = deal-all-right o t₂
 woven→ o free f (right-empty {t₁ = t₁}) = deal-all-left o t₁
 woven→ o free f (first-left w) = left (woven→ o free f w)
@@ -44,12 +45,14 @@ woven-left a s [] t left-empty = right-empty
 woven-left a s [] t right-empty = right-empty
 woven-left a s (b ∷ u) t w = first-left w
 
-woven-right : {free : Log → Action → Type 0} (a : Action) (s u t : Log) → free s a → Woven free s u t → Woven free s (a ∷ u) (a ∷ t)
+woven-right : {free : Log → Action → Type 0} (a : Action) (s u t : Log) → free s a → Woven free s u t
+    → Woven free s (a ∷ u) (a ∷ t)
 woven-right a [] u t m left-empty = left-empty
 woven-right a [] u t m right-empty = left-empty
 woven-right a (b ∷ s) u t m w = first-right m w
 
-woven← : (o : Order) (free : Log → Action → Type 0) → ((s : Log) (a : Action) → May o s a → free s a) → {s u t : Log} → Deal o s u t → Woven free s u t
+woven← : (o : Order) (free : Log → Action → Type 0) → ((s : Log) (a : Action) → May o s a → free s a) → {s u t : Log}
+    → Deal o s u t → Woven free s u t
 woven← o free f done = left-empty
 woven← o free f (left {a = a} {s = s} {u = u} {t = t} x) = woven-left a s u t (woven← o free f x)
 woven← o free f (right {a = a} {s = s} {u = u} {t = t} m x) = woven-right a s u t (f s a m) (woven← o free f x)
@@ -97,7 +100,8 @@ closure-agrees k op T M f g t = (λ c. rounds (c .0) t (c .1), powers t)
 kleene-agrees : (o : Order) (T M : Traces) → Same T M → Same (closure (Joined (scheduling o)) T) (Star (each o) M)
 kleene-agrees o T M f = closure-agrees (each o) (Joined (scheduling o)) T M forth back
   where
-    forth : (U : Traces) → ((u : Log) → U u → Star (each o) M u) → (t : Log) → Joined (scheduling o) T U t → Star (each o) M t
+    forth : (U : Traces) → ((u : Log) → U u → Star (each o) M u) → (t : Log) → Joined (scheduling o) T U t
+        → Star (each o) M t
     forth U h t (joined s u m n x) = more (f s .0 m) (h u n) (dealt (scheduling→ o s u t x))
 
     back : (U : Traces) (s u t : Log) → M s → U u → Round (each o) s u t → Joined (scheduling o) T U t
@@ -106,7 +110,8 @@ kleene-agrees o T M f = closure-agrees (each o) (Joined (scheduling o)) T M fort
 head-agrees : (T M : Traces) → Same T M → Same (closure (restricted weakSequencing) T) (Star head M)
 head-agrees T M f = closure-agrees head (restricted weakSequencing) T M forth back
   where
-    begun : (U : Traces) → ((u : Log) → U u → Star head M u) → (a : Action) (s t : Log) → T (a ∷ s) → Joined weakSequencing (Only s) U t → Star head M (a ∷ t)
+    begun : (U : Traces) → ((u : Log) → U u → Star head M u) → (a : Action) (s t : Log) → T (a ∷ s)
+        → Joined weakSequencing (Only s) U t → Star head M (a ∷ t)
     begun U h a s t m (joined _ u only n x) = more (f (a ∷ s) .0 m) (h u n) (headed (scheduling→ seq s u t x))
 
     forth : (U : Traces) → ((u : Log) → U u → Star head M u) → (t : Log) → restricted weakSequencing T U t → Star head M t
@@ -143,7 +148,8 @@ evades-iff-some-published-log-avoids c d =
     (λ h. let (t, m, e) = evades→ c d h in (t, published-iff-member c t .1 m, e), λ w. evades← c d (w .0) (published-iff-member c (w .0) .0 (w .1)) (w .2))
 
 -- (000, Lemma 7)
-pub prune-keeps-published : (c : Chart) (d : ℕ) → T (evades c d) → (t : Log) → Published (prune c d .chart) t ↔ (Published c t × Avoids d t)
+pub prune-keeps-published : (c : Chart) (d : ℕ) → T (evades c d) → (t : Log)
+    → Published (prune c d .chart) t ↔ (Published c t × Avoids d t)
 prune-keeps-published c d h t =
     Iff·trans (published-iff-member (prune c d .chart) t)
     (Iff·trans (prune-keeps c d h t) (Iff·and (Iff·symm (published-iff-member c t)) Iff·rfl))

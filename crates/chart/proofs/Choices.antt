@@ -1,5 +1,5 @@
--- One of several charts: some entry of a list has a property, through appending, mapping and a test; and the set of logs that belong to
--- one of several sets, through composition. Nothing here knows what a follow-up is.
+-- One of several charts: some entry of a list has a property, through appending, mapping and a test; and the set of
+-- logs that belong to one of several sets, through composition. Nothing here knows what a follow-up is.
 -- Assumes nothing.
 use mathlib.Core.Bool.{Bool, true, false, cond}
 use mathlib.Core.List.{List, [], _∷_, _++_, map}
@@ -52,24 +52,29 @@ some-if← false xs h w = absurd h
 
 -- ---- composed with some of a list
 
-pub joined-implies : {op : Operator} {L L′ M M′ : Traces} {t : Log} → ((s : Log) → L s → L′ s) → ((u : Log) → M u → M′ u) → Joined op L M t → Joined op L′ M′ t
+pub joined-implies : {op : Operator} {L L′ M M′ : Traces} {t : Log} → ((s : Log) → L s → L′ s) → ((u : Log) → M u → M′ u)
+    → Joined op L M t → Joined op L′ M′ t
 joined-implies f g (joined s u m n x) = joined s u (f s m) (g u n) x
 
 -- the set of logs that belong to P of some entry
 abbrev pub Union : (Made → Traces) → List Made → Traces
 Union P xs t = Some (λ x. P x t) xs
 
-pub union-left→ : {op : Operator} (P : Made → Traces) {M : Traces} {xs : List Made} {t : Log} → Joined op (Union P xs) M t → Union (λ x. Joined op (P x) M) xs t
+pub union-left→ : {op : Operator} (P : Made → Traces) {M : Traces} {xs : List Made} {t : Log} → Joined op (Union P xs) M t
+    → Union (λ x. Joined op (P x) M) xs t
 union-left→ P (joined s u w n x) = some-implies (λ y p. joined s u p n x) w
 
-pub union-left← : {op : Operator} (P : Made → Traces) {M : Traces} {xs : List Made} {t : Log} → Union (λ x. Joined op (P x) M) xs t → Joined op (Union P xs) M t
+pub union-left← : {op : Operator} (P : Made → Traces) {M : Traces} {xs : List Made} {t : Log}
+    → Union (λ x. Joined op (P x) M) xs t → Joined op (Union P xs) M t
 union-left← P (here (joined s u p n x)) = joined s u (here p) n x
 union-left← P (there w) = joined-implies (λ s v. there v) (λ u n. n) (union-left← P w)
 
-pub union-right→ : {op : Operator} {L : Traces} (P : Made → Traces) {xs : List Made} {t : Log} → Joined op L (Union P xs) t → Union (λ x. Joined op L (P x)) xs t
+pub union-right→ : {op : Operator} {L : Traces} (P : Made → Traces) {xs : List Made} {t : Log} → Joined op L (Union P xs) t
+    → Union (λ x. Joined op L (P x)) xs t
 union-right→ P (joined s u m w x) = some-implies (λ y p. joined s u m p x) w
 
-pub union-right← : {op : Operator} {L : Traces} (P : Made → Traces) {xs : List Made} {t : Log} → Union (λ x. Joined op L (P x)) xs t → Joined op L (Union P xs) t
+pub union-right← : {op : Operator} {L : Traces} (P : Made → Traces) {xs : List Made} {t : Log}
+    → Union (λ x. Joined op L (P x)) xs t → Joined op L (Union P xs) t
 union-right← P (here (joined s u m p x)) = joined s u m (here p) x
 union-right← P (there w) = joined-implies (λ s m. m) (λ u v. there v) (union-right← P w)
 

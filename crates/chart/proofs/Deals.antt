@@ -1,15 +1,16 @@
 -- Deals: with an empty part, one after the other, which actions they hold, and how they regroup.
 --
--- A deal takes each action of the log to one of its parts, so a property of every action holds of the log exactly if it holds of both
--- parts. Weak deals regroup both ways: an action may overtake a part that is itself a deal exactly if it may overtake both
--- of its parts. In a parallel deal nothing is held back, so the first of the rest may be taken out before the left part.
--- Each law goes by induction on a deal; where there are two, the action at the front says which part of the second it went to.
+-- A deal takes each action of the log to one of its parts, so a property of every action holds of the log exactly if
+-- it holds of both parts. Weak deals regroup both ways: an action may overtake a part that is itself a deal exactly
+-- if it may overtake both of its parts. In a parallel deal nothing is held back, so the first of the rest may be
+-- taken out before the left part. Each law goes by induction on a deal; where there are two, the action at the front
+-- says which part of the second it went to.
 -- Assumes nothing.
 use mathlib.Core.List.{[], _∷_, _++_}
 use mathlib.Core.Path.{_≡_, refl, ap}
 use Rattle.chart.specs.Action.{Action, Log, Every}
 use Rattle.chart.specs.Chart.{Order, strict, seq, par}
-use Rattle.chart.specs.Traces.{Only, only}
+use Rattle.chart.specs.Traces.{only}
 use Rattle.chart.specs.Member.{May, Deal, done, left, right}
 
 -- nothing of the left is to come, so that any action of the right may be taken

@@ -1,14 +1,16 @@
--- The customer's demands, for charts and logs. Each theorem stands under the sentence that it keeps, and only cites others.
+-- The customer's demands, for charts and logs. Each theorem stands under the sentence that it keeps, and only cites
+-- others.
 --
 -- `answer c t allowance room` is the answer to chart c and log t: number, place, steps, places (specs/Lending.antt).
 -- `Published c` is the chart's trace set as document 000 composes it (specs/Published.antt).
--- `Begins`, `Longer` and `Longest` speak of openings (specs/Openings.antt); `Reaches`, `Wants` and `Exceeds` of a lending (specs/Reaching.antt).
+-- `Begins`, `Longer` and `Longest` speak of openings (specs/Openings.antt).
+-- `Reaches`, `Wants` and `Exceeds` speak of a lending (specs/Reaching.antt).
 -- That cards and logs given as bytes get these answers is shown by the crates above this one.
 -- Assumes nothing.
 use Prim.Native.Nat.{ℕ, _<_}
 use mathlib.Core.List.{_++_}
 use mathlib.Core.Logic.{_↔_, _⊎_, inl, inr, Iff·not}
-use mathlib.Core.Path.{_≡_, sym, ap, _∙_}
+use mathlib.Core.Path.{_≡_, sym, _∙_}
 use lib.Dec.{T}
 use lib.ListN.{length}
 use Rattle.chart.specs.Action.{Log, Avoids}
@@ -21,45 +23,52 @@ use Rattle.chart.specs.Lending.{Answer, halted, answer}
 use Rattle.chart.specs.Reaching.{Reaches, Verdict, Wants, Exceeds}
 use Rattle.chart.proofs.Agreement.{evades-iff-some-published-log-avoids, prune-keeps-published}
 use Rattle.chart.proofs.Extending.{answer-extends}
-use Rattle.chart.proofs.Answering.{reached-answer, of-verdict, reaches-verdict, verdict-reaches, spent-answer, nine-wants, too-large-answer, exceeded-answer, exceeds-ten, ten-exceeds, no-other-number}
+use Rattle.chart.proofs.Answering.{reached-answer, of-verdict, reaches-verdict, verdict-reaches, spent-answer, nine-wants, wants-nine, too-large-answer, exceeded-answer, exceeds-ten, ten-exceeds, no-other-number}
 use Rattle.chart.proofs.Judging.{accepted-iff, short-iff, deviates-iff, accepted-place, short-place, deviates-place, verdict-figures, deviates-begins-none, search-decides-the-published-set}
 
 module _ (c : Chart) (t : Log) (allowance room : ℕ) where
+  -- the answer
+  abbrev given : Answer
+  given = answer c t allowance room
+
   -- ---- Demand 2: what a verdict says of the log
 
   -- "A verdict is "accepted" exactly if the log is in the chart's trace set as the published semantics composes it;
-  pub accepted-exactly-if-published : Reaches c t allowance room → (answer c t allowance room .number ≡ 20) ↔ Published c t
+  pub accepted-exactly-if-published : Reaches c t allowance room → (given .number ≡ 20) ↔ Published c t
   accepted-exactly-if-published r =
       of-verdict c t allowance room (λ a. (a .number ≡ 20) ↔ Published c t) r
       (accepted-iff (Published c) t (searched c t) (stepsOf c t) (placesOf c t) (search-decides-the-published-set c t))
 
   -- "short" exactly if not but some longer log beginning with it is;
-  pub short-exactly-if-only-a-longer-log-is : Reaches c t allowance room → (answer c t allowance room .number ≡ 21) ↔ ((¬ Published c t) × Longer (Published c) t)
+  pub short-exactly-if-only-a-longer-log-is : Reaches c t allowance room
+      → (given .number ≡ 21) ↔ ((¬ Published c t) × Longer (Published c) t)
   short-exactly-if-only-a-longer-log-is r =
       of-verdict c t allowance room (λ a. (a .number ≡ 21) ↔ ((¬ Published c t) × Longer (Published c) t)) r
       (short-iff (Published c) t (searched c t) (stepsOf c t) (placesOf c t) (search-decides-the-published-set c t))
 
   -- else it deviates,
-  pub deviates-exactly-if-it-begins-none : Reaches c t allowance room → (answer c t allowance room .number ≡ 22) ↔ (¬ Begins (Published c) t)
+  pub deviates-exactly-if-it-begins-none : Reaches c t allowance room
+      → (given .number ≡ 22) ↔ (¬ Begins (Published c) t)
   deviates-exactly-if-it-begins-none r =
       of-verdict c t allowance room (λ a. (a .number ≡ 22) ↔ (¬ Begins (Published c) t)) r
       (deviates-iff (Published c) t (searched c t) (stepsOf c t) (placesOf c t) (search-decides-the-published-set c t))
 
   -- at the length of its longest opening that begins some log of the chart."
-  pub deviates-at-the-longest-opening : answer c t allowance room .number ≡ 22 → Longest (Published c) t (answer c t allowance room .place)
+  pub deviates-at-the-longest-opening : given .number ≡ 22
+      → Longest (Published c) t (given .place)
   deviates-at-the-longest-opening e =
       of-verdict c t allowance room (λ a. a .number ≡ 22 → Longest (Published c) t (a .place))
       (verdict-reaches c t allowance room (inr (inr e)))
       (deviates-place (Published c) t (searched c t) (stepsOf c t) (placesOf c t) (search-decides-the-published-set c t)) e
 
   -- 01, Verdicts and numbers given: 20 and 21 give the log's length.
-  pub accepted-gives-the-length : answer c t allowance room .number ≡ 20 → answer c t allowance room .place ≡ length t
+  pub accepted-gives-the-length : given .number ≡ 20 → given .place ≡ length t
   accepted-gives-the-length e =
       of-verdict c t allowance room (λ a. a .number ≡ 20 → a .place ≡ length t)
       (verdict-reaches c t allowance room (inl e))
       (accepted-place (Published c) t (searched c t) (stepsOf c t) (placesOf c t)) e
 
-  pub short-gives-the-length : answer c t allowance room .number ≡ 21 → answer c t allowance room .place ≡ length t
+  pub short-gives-the-length : given .number ≡ 21 → given .place ≡ length t
   short-gives-the-length e =
       of-verdict c t allowance room (λ a. a .number ≡ 21 → a .place ≡ length t)
       (verdict-reaches c t allowance room (inr (inl e)))
@@ -67,54 +76,63 @@ module _ (c : Chart) (t : Log) (allowance room : ℕ) where
 
   -- ---- Demand 3: steps and places
 
-  -- "Chart and log fix a number of steps and of places." They are `stepsOf c t` and `placesOf c t`, in which no lending stands.
-  -- "A verdict comes exactly when allowance and usable room reach them,
-  pub verdict-exactly-when-reached : Verdict (answer c t allowance room .number) ↔ Reaches c t allowance room
+  -- "Chart and log fix a number of steps and of places." They are `stepsOf c t` and `placesOf c t`: no lending stands
+  -- in them. "A verdict comes exactly when allowance and usable room reach them,
+  pub verdict-exactly-when-reached : Verdict (given .number) ↔ Reaches c t allowance room
   verdict-exactly-when-reached = (verdict-reaches c t allowance room, reaches-verdict c t allowance room)
 
   -- and is then the same whatever more is lent."
-  pub same-whatever-more-is-lent : (more moreRoom : ℕ) → Reaches c t allowance room → Reaches c t more moreRoom → answer c t allowance room ≡ answer c t more moreRoom
+  pub same-whatever-more-is-lent : (more moreRoom : ℕ) → Reaches c t allowance room → Reaches c t more moreRoom
+      → given ≡ answer c t more moreRoom
   same-whatever-more-is-lent more moreRoom r s = reached-answer c t allowance room r ∙ sym (reached-answer c t more moreRoom s)
 
   -- The verdict has these two figures.
-  pub verdict-has-the-figures : Reaches c t allowance room → (answer c t allowance room .steps ≡ stepsOf c t) × (answer c t allowance room .places ≡ placesOf c t)
+  pub verdict-has-the-figures : Reaches c t allowance room
+      → (given .steps ≡ stepsOf c t) × (given .places ≡ placesOf c t)
   verdict-has-the-figures r =
       of-verdict c t allowance room (λ a. (a .steps ≡ stepsOf c t) × (a .places ≡ placesOf c t)) r
       (verdict-figures (length t) (searched c t) (stepsOf c t) (placesOf c t))
 
   -- Else the number is 9 or 10.
-  pub verdict-or-nine-or-ten : Verdict (answer c t allowance room .number) ⊎ (answer c t allowance room .number ≡ 9) ⊎ (answer c t allowance room .number ≡ 10)
+  pub verdict-or-nine-or-ten : Verdict (given .number) ⊎ (given .number ≡ 9) ⊎ (given .number ≡ 10)
   verdict-or-nine-or-ten = no-other-number c t allowance room
 
   -- 01: 9 exactly if "a follow-up is wanted and the allowance is spent", whatever room it would take,
-  pub nine-exactly-if-the-allowance-is-spent : (answer c t allowance room .number ≡ 9) ↔ Wants c t room allowance
-  nine-exactly-if-the-allowance-is-spent = (nine-wants c t allowance room, λ w. ap (λ (a : Answer). a .number) (spent-answer c t allowance room w))
+  pub nine-exactly-if-the-allowance-is-spent : (given .number ≡ 9) ↔ Wants c t room allowance
+  nine-exactly-if-the-allowance-is-spent = (nine-wants c t allowance room, wants-nine c t allowance room)
 
   -- with the figures reached so far.
-  pub nine-has-the-figures-reached : answer c t allowance room .number ≡ 9 → answer c t allowance room ≡ halted 9 allowance (placesAfter c t allowance)
+  pub nine-has-the-figures-reached : given .number ≡ 9
+      → given ≡ halted 9 allowance (placesAfter c t allowance)
   nine-has-the-figures-reached e = spent-answer c t allowance room (nine-wants c t allowance room e)
 
-  -- 01: 10 exactly if "the chart, or the next whole follow-up, exceeds the usable room", the allowance not being spent;
-  pub ten-exactly-if-the-room-is-exceeded : (answer c t allowance room .number ≡ 10) ↔ ((room < size c) ⊎ ((k : ℕ) × Exceeds c t allowance room k))
+  -- 01: 10 exactly if "the chart, or the next whole follow-up, exceeds the usable room", the allowance not spent;
+  pub ten-exactly-if-the-room-is-exceeded : (given .number ≡ 10) ↔ ((room < size c) ⊎ ((k : ℕ) × Exceeds c t allowance room k))
   ten-exactly-if-the-room-is-exceeded = (ten-exceeds c t allowance room, exceeds-ten c t allowance room)
 
   -- no figures if it is the chart, else the figures reached so far.
-  pub ten-has-no-figures-for-the-chart : room < size c → answer c t allowance room ≡ halted 10 0 0
+  pub ten-has-no-figures-for-the-chart : room < size c → given ≡ halted 10 0 0
   ten-has-no-figures-for-the-chart = too-large-answer c t allowance room
 
-  pub ten-has-the-figures-reached : (k : ℕ) → Exceeds c t allowance room k → answer c t allowance room ≡ halted 10 k (placesAfter c t k)
+  pub ten-has-the-figures-reached : (k : ℕ) → Exceeds c t allowance room k
+      → given ≡ halted 10 k (placesAfter c t k)
   ten-has-the-figures-reached = exceeded-answer c t allowance room
 
-  -- "Once a log deviates, every sound longer log beginning with it gets the same verdict, place and figures."
-  pub once-deviating-always-the-same : ¬ Begins (Published c) t → (u : Log) → answer c (t ++ u) allowance room ≡ answer c t allowance room
-  once-deviating-always-the-same n u =
-      answer-extends c t u allowance room (deviates-begins-none (Published c) t (searched c t) (search-decides-the-published-set c t) .1 n)
+  -- "Once a log deviates, every sound longer log beginning with it gets the same verdict, place and figures",
+  -- whatever is lent.
+  pub once-deviating-the-same-for-ever : given .number ≡ 22 → (u : Log) (lent lentRoom : ℕ)
+      → answer c (t ++ u) lent lentRoom ≡ answer c t lent lentRoom
+  once-deviating-the-same-for-ever e u lent lentRoom =
+      let none = deviates-exactly-if-it-begins-none (verdict-reaches c t allowance room (inr (inr e))) .0 e in
+      answer-extends c t u lent lentRoom
+      (deviates-begins-none (Published c) t (searched c t) (search-decides-the-published-set c t) .1 none)
 
 -- ---- Demand 2: what a cut keeps
 
 module _ (c : Chart) (d : ℕ) where
   -- "A cut keeps exactly the logs in which the device never acts,
-  pub cut-keeps-exactly-the-logs-without-the-device : T (evades c d) → (t : Log) → Published (prune c d .chart) t ↔ (Published c t × Avoids d t)
+  pub cut-keeps-exactly-the-logs-without-the-device : T (evades c d) → (t : Log)
+      → Published (prune c d .chart) t ↔ (Published c t × Avoids d t)
   cut-keeps-exactly-the-logs-without-the-device = prune-keeps-published c d
 
   -- and is refused for want of one exactly if there is none."

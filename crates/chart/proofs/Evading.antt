@@ -1,19 +1,19 @@
 -- Terminating is having the empty log, and evading d is having a log in which d never acts.
 --
--- From a test to a log: a pair takes a log of each side and deals them one after the other, a loop takes no round. From a log to the test:
--- the parts of a deal of nothing are nothing, and the parts of a deal without d are without d.
--- Every chart has a log, by the same construction.
+-- From a test to a log: a pair takes a log of each side and deals them one after the other, a loop takes no round.
+-- From a log to the test: the parts of a deal of nothing are nothing, and the parts of a deal without d are without
+-- d. Every chart has a log, by the same construction.
 -- Assumes nothing.
 use Prim.Native.Nat.{ℕ}
-use mathlib.Core.Bool.{true, false, not}
+use mathlib.Core.Bool.{not}
 use mathlib.Core.List.{[], _∷_, _++_}
-use mathlib.Core.Logic.{_↔_, _≢_, _⊎_, inl, inr, ⊎-elim, ⊎-map}
-use mathlib.Core.Path.{_≡_, subst}
+use mathlib.Core.Logic.{_↔_, _≢_, inl, inr, ⊎-elim, ⊎-map}
+use mathlib.Core.Path.{subst}
 use lib.Dec.{T, T-not, not-T, eqb, eqb→eq, eqb-refl}
-use Rattle.chart.specs.Action.{Action, Log, Avoids}
+use Rattle.chart.specs.Action.{Log, Avoids}
 use Rattle.chart.specs.Chart.{Chart, empty, act, alt, pair, loop}
 use Rattle.chart.specs.Traces.{only, joined}
-use Rattle.chart.specs.Member.{Deal, done, Member, Star, none}
+use Rattle.chart.specs.Member.{done, Member, none}
 use Rattle.chart.specs.Executing.{terminates, evades}
 use Rattle.chart.proofs.Tests.{both→, both←, either→, either←left, either←right}
 use Rattle.chart.proofs.Deals.{deal-appended, deal-every→, deal-every←}

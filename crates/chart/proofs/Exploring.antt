@@ -1,9 +1,9 @@
--- What the search finds: it accepts exactly the logs of the chart; where it refuses, its deepest opening is the longest opening with which
--- some log of the chart begins.
+-- What the search finds: it accepts exactly the logs of the chart; where it refuses, its deepest opening is the
+-- longest opening with which some log of the chart begins.
 --
--- By induction on the log. The choices of a step are the follow-ups, and the log goes on in one of them exactly if it belongs to the chart
--- (Following.antt). Acceptance needs one choice that accepts. The longest opening is one action more than the longest in any choice, and
--- where there is no choice it is empty, since every chart has a log.
+-- By induction on the log. The choices of a step are the follow-ups, and the log goes on in one of them exactly if it
+-- belongs to the chart: that is Following.antt. Acceptance needs one choice that accepts. The longest opening is one
+-- action more than the longest in any choice, and where there is no choice it is empty, since every chart has a log.
 -- Assumes nothing.
 use Prim.Native.Nat.{ℕ, zero, suc, _+_, _≤_, max, zero-le, suc-le-suc}
 use native.Mathlib.Nat.{le-trans, le-of-suc-le-suc, le-max-left, le-max-right, max-le, max-eq-left, max-eq-right, le-of-lt, lt-of-not-le}
@@ -11,16 +11,15 @@ use native.Mathlib.Decide.{decLe}
 use mathlib.Core.Bool.{Bool, true, false, cond}
 use mathlib.Core.List.{List, [], _∷_, _++_}
 use mathlib.Core.Logic.{_↔_}
-use mathlib.Core.Path.{_≡_, refl, sym, subst}
+use mathlib.Core.Path.{sym, subst}
 use lib.Dec.{T}
 use lib.ListN.{length, take}
 use Rattle.chart.specs.Action.{Action, Log}
 use Rattle.chart.specs.Chart.{Chart}
-use Rattle.chart.specs.Traces.{Traces}
 use Rattle.chart.specs.Openings.{Begins, Longest}
 use Rattle.chart.specs.Member.{Member}
 use Rattle.chart.specs.Executing.{Made, terminates, follows}
-use Rattle.chart.specs.Searching.{Outcome, accepted, refused, orElse, step, tries, explore}
+use Rattle.chart.specs.Searching.{Outcome, accepted, refused, step, tries, explore}
 use Rattle.chart.proofs.Evading.{every-chart-has-a-log, terminates→, terminates←}
 use Rattle.chart.proofs.Choices.{Some, here, there, some-implies, OneOf}
 use Rattle.chart.proofs.Following.{follows-iff}
@@ -32,7 +31,8 @@ abbrev pub Accepts : Outcome → Type 0
 Accepts (accepted run) = Unit
 Accepts (refused deepest run) = ⊥
 
-step-accepts : {P : Made → Type 0} (n : ℕ) (x : Made) (xs : List Made) (first rest : Outcome) → Accepts first ↔ P x → Accepts rest ↔ Some P xs → Accepts (step n first rest) ↔ Some P (x ∷ xs)
+step-accepts : {P : Made → Type 0} (n : ℕ) (x : Made) (xs : List Made) (first rest : Outcome) → Accepts first ↔ P x
+    → Accepts rest ↔ Some P xs → Accepts (step n first rest) ↔ Some P (x ∷ xs)
 step-accepts n x xs (accepted run) rest f g = (λ h. here (f .0 tt), λ w. tt)
 step-accepts {P} n x xs (refused d run) (accepted more) f g = (λ h. there (g .0 tt), λ w. tt)
 step-accepts {P} n x xs (refused d run) (refused e more) f g = (λ h. absurd h, none)
@@ -42,7 +42,8 @@ step-accepts {P} n x xs (refused d run) (refused e more) f g = (λ h. absurd h, 
     none (there w) = g .1 w
 
 -- The choices accept exactly if one of them does.
-tries-accepts : {P : Made → Type 0} (go : Chart → ℕ → Outcome) (used : ℕ) (xs : List Made) → ((x : Made) → Accepts (go (x .chart) (used + x .cost)) ↔ P x) → Accepts (tries go used xs) ↔ Some P xs
+tries-accepts : {P : Made → Type 0} (go : Chart → ℕ → Outcome) (used : ℕ) (xs : List Made)
+    → ((x : Made) → Accepts (go (x .chart) (used + x .cost)) ↔ P x) → Accepts (tries go used xs) ↔ Some P xs
 unfolding tries
 tries-accepts go used [] f = (λ h. absurd h, elim [ ])
 tries-accepts go used (x ∷ xs) f =
@@ -89,7 +90,9 @@ max-of P m n p q = pick (decLe m n)
     pick (yes h) = subst P (sym (max-eq-right h)) q
     pick (no h) = subst P (sym (max-eq-left (le-of-lt (lt-of-not-le h)))) p
 
-step-deepest : (n : ℕ) (x : Made) (xs : List Made) (t : Log) (first rest : Outcome) → Refuses (Longest (Member (x .chart)) t) first → Refuses (Deepest xs t) rest → Refuses (Deepest (x ∷ xs) t) (step n first rest)
+step-deepest : (n : ℕ) (x : Made) (xs : List Made) (t : Log) (first rest : Outcome)
+    → Refuses (Longest (Member (x .chart)) t) first → Refuses (Deepest xs t) rest
+    → Refuses (Deepest (x ∷ xs) t) (step n first rest)
 step-deepest n x xs t (accepted run) rest f g = tt
 step-deepest n x xs t (refused d run) (accepted more) f g = tt
 step-deepest n x xs t (refused d run) (refused e more) f g =
@@ -103,24 +106,29 @@ step-deepest n x xs t (refused d run) (refused e more) f g =
     deep m h (here b) = le-trans (suc-le-suc (f .longest m h b)) (le-max-left (suc d) e)
     deep m h (there w) = le-trans (g .deepest m h w) (le-max-right (suc d) e)
 
-tries-deepest : (go : Chart → ℕ → Outcome) (used : ℕ) (xs : List Made) (t : Log) → ((x : Made) → Refuses (Longest (Member (x .chart)) t) (go (x .chart) (used + x .cost))) → Refuses (Deepest xs t) (tries go used xs)
+tries-deepest : (go : Chart → ℕ → Outcome) (used : ℕ) (xs : List Made) (t : Log)
+    → ((x : Made) → Refuses (Longest (Member (x .chart)) t) (go (x .chart) (used + x .cost)))
+    → Refuses (Deepest xs t) (tries go used xs)
 unfolding tries
 tries-deepest go used [] t f = record { within = zero-le; reached = nowhere; deepest = λ m h. elim [ ] }
 tries-deepest go used (x ∷ xs) t f =
     step-deepest (used + x .cost) x xs t (go (x .chart) (used + x .cost)) (tries go used xs) (f x) (tries-deepest go used xs t f)
 
 -- The chart's log that begins with a and an opening of t.
-begins→ : (c : Chart) (a : Action) (s : Log) → Begins (Member c) (a ∷ s) → Some (λ x. Begins (Member (x .chart)) s) (follows c a)
+begins→ : (c : Chart) (a : Action) (s : Log) → Begins (Member c) (a ∷ s)
+    → Some (λ x. Begins (Member (x .chart)) s) (follows c a)
 begins→ c a s (u, m) = some-implies (λ x w. (u, w)) (follows-iff c a (s ++ u) .0 m)
 
-begins← : (c : Chart) (a : Action) (s : Log) → Some (λ x. Begins (Member (x .chart)) s) (follows c a) → Begins (Member c) (a ∷ s)
+begins← : (c : Chart) (a : Action) (s : Log) → Some (λ x. Begins (Member (x .chart)) s) (follows c a)
+    → Begins (Member c) (a ∷ s)
 begins← c a s w = let (u, v) = one w in (u, follows-iff c a (s ++ u) .1 v)
   where
     one : {xs : List Made} → Some (λ x. Begins (Member (x .chart)) s) xs → (u : Log) × OneOf xs (s ++ u)
     one (here (u, m)) = (u, here m)
     one (there v) = let (u, o) = one v in (u, there o)
 
-deepest-is-longest : (c : Chart) (a : Action) (t : Log) (o : Outcome) → Refuses (Deepest (follows c a) t) o → Refuses (Longest (Member c) (a ∷ t)) o
+deepest-is-longest : (c : Chart) (a : Action) (t : Log) (o : Outcome) → Refuses (Deepest (follows c a) t) o
+    → Refuses (Longest (Member c) (a ∷ t)) o
 deepest-is-longest c a t (accepted run) f = tt
 deepest-is-longest c a t (refused d run) f = record { within = f .within; opens = opening (f .reached); longest = long }
   where

@@ -1,7 +1,7 @@
 -- Once a log deviates, going on with it changes nothing: the search never comes to the part that was added.
 --
--- By induction on the log. If the deepest opening of all choices is short of the log's end, then so is that of each choice, and nobody looks
--- at what stands beyond.
+-- By induction on the log. If the deepest opening of all choices is short of the log's end, then so is that of each
+-- choice, and nobody looks at what stands beyond.
 -- Assumes nothing.
 use Prim.Native.Nat.{ℕ, suc, _+_, _≤_, _<_, suc-le-suc}
 use native.Mathlib.Nat.{not-suc-le-zero, le-of-suc-le-suc, le-trans, le-max-left, le-max-right, le-add-right}
@@ -22,13 +22,16 @@ abbrev pub Deviates : ℕ → Outcome → Type 0
 Deviates n (accepted run) = ⊥
 Deviates n (refused deepest run) = deepest < n
 
-step-deviates : (n m : ℕ) (first rest : Outcome) → Deviates (suc n) (step m first rest) → Deviates n first × Deviates (suc n) rest
+step-deviates : (n m : ℕ) (first rest : Outcome) → Deviates (suc n) (step m first rest)
+    → Deviates n first × Deviates (suc n) rest
 step-deviates n m (refused d run) (refused e more) h =
     (le-of-suc-le-suc (le-trans (suc-le-suc (le-max-left (suc d) e)) h), le-trans (suc-le-suc (le-max-right (suc d) e)) h)
 step-deviates n m (accepted run) rest h = absurd h
 step-deviates n m (refused d run) (accepted more) h = absurd h
 
-tries-extend : (go on : Chart → ℕ → Outcome) (n used : ℕ) (xs : List Made) → ((x : Chart) (m : ℕ) → Deviates n (go x m) → on x m ≡ go x m) → Deviates (suc n) (tries go used xs) → tries on used xs ≡ tries go used xs
+tries-extend : (go on : Chart → ℕ → Outcome) (n used : ℕ) (xs : List Made)
+    → ((x : Chart) (m : ℕ) → Deviates n (go x m) → on x m ≡ go x m) → Deviates (suc n) (tries go used xs)
+    → tries on used xs ≡ tries go used xs
 unfolding tries
 tries-extend go on n used [] f h = refl
 tries-extend go on n used (x ∷ xs) f h =
@@ -36,7 +39,8 @@ tries-extend go on n used (x ∷ xs) f h =
     let (p, q) = step-deviates n m (go (x .chart) m) (tries go used xs) h in
     ap₂ (step m) (f (x .chart) m p) (tries-extend go on n used xs f q)
 
-pub explore-extends : (t u : Log) (c : Chart) (used : ℕ) → Deviates (length t) (explore t c used) → explore (t ++ u) c used ≡ explore t c used
+pub explore-extends : (t u : Log) (c : Chart) (used : ℕ) → Deviates (length t) (explore t c used)
+    → explore (t ++ u) c used ≡ explore t c used
 unfolding explore
 explore-extends [] u c used h = absurd (never (terminates c) h)
   where
@@ -53,7 +57,8 @@ unaccepted-extends : (d long more : ℕ) → d < long → long ≤ more → unac
 unaccepted-extends d long more h g =
     ap unaccepted (passes (ltb d more) (lt→ltb d more (le-trans h g)) ∙ sym (passes (ltb d long) (lt→ltb d long h)))
 
-ended-extends : (long more : ℕ) (o : Outcome) (end : Spending) → Deviates long o → long ≤ more → ended more o end ≡ ended long o end
+ended-extends : (long more : ℕ) (o : Outcome) (end : Spending) → Deviates long o → long ≤ more
+    → ended more o end ≡ ended long o end
 ended-extends long more o (stopped number s p) h g = refl
 ended-extends long more (refused d run) (going s p) h g =
     ap (λ (n : ℕ). record { number = n; place = d; steps = s; places = p }) (unaccepted-extends d long more h g)

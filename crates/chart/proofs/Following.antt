@@ -1,11 +1,11 @@
--- The follow-ups of a chart by an action are what can come after it: a ∷ t is a log of the chart exactly if t is a log of one of its
--- follow-ups by a. All eleven kinds.
+-- The follow-ups of a chart by an action are what can come after it: a ∷ t is a log of the chart exactly if t is a
+-- log of one of its follow-ups by a. All eleven kinds.
 --
--- By induction on the chart. A deal that begins with a takes it from the left part or from the right part. From the left, the left side is followed
--- up. From the right, strict asks that the left part is empty, seq that it is clear of a's lifeline, par nothing: that is `onRight`.
--- A loop's log that begins with a begins one of its rounds with a: that is Looping.antt.
+-- By induction on the chart. A deal that begins with a takes it from the left part or from the right part. From the
+-- left, the left side is followed up. From the right, strict asks that the left part is empty, seq that it is clear
+-- of a's lifeline, par nothing: that is `onRight`. A loop's log that begins with a begins one of its rounds with a:
+-- that is Looping.antt.
 -- Assumes nothing.
-use Prim.Native.Nat.{ℕ}
 use mathlib.Core.Bool.{Bool, true, false, cond, Bool·beq, _&&_}
 use mathlib.Core.List.{List, [], _∷_, _++_, map}
 use mathlib.Core.Logic.{_↔_, _⊎_, inl, inr, ⊎-elim, ⊎-map}
@@ -15,13 +15,13 @@ use Rattle.chart.specs.Action.{Action, Log, same, Clear}
 use Rattle.chart.specs.Chart.{Order, strict, seq, par, Loop, each, head, Chart, empty, act, alt, pair, loop}
 use Rattle.chart.specs.Traces.{Only, only, Joined, joined}
 use Rattle.chart.specs.Member.{May, Deal, left, right, Star, Member}
-use Rattle.chart.specs.Executing.{Made, newEmpty, over, overBoth, terminates, letsPass, passed, onRight, between, begun, afterRound, follows}
+use Rattle.chart.specs.Executing.{Made, newEmpty, over, overBoth, terminates, letsPass, passed, onRight, begun, afterRound, follows}
 use Rattle.chart.proofs.Tests.{both→, both←}
 use Rattle.chart.proofs.Deals.{deal-all-right, deal-left-is-empty}
 use Rattle.chart.proofs.Evading.{terminates→, terminates←}
 use Rattle.chart.proofs.Pruning.{lets-pass←, passed-keeps}
 use Rattle.chart.proofs.Looping.{Begun, begins, strict-begins, head-begins, parallel-begins, Fronted, weak-begins→, weak-begins←}
-use Rattle.chart.proofs.Choices.{Some, here, there, some-left, some-right, some-append, some-map→, some-map←, some-if→, some-if←, joined-implies, union-left→, union-left←, union-right→, union-right←, Union, OneOf}
+use Rattle.chart.proofs.Choices.{here, some-left, some-right, some-append, some-map→, some-map←, some-if→, some-if←, joined-implies, union-left→, union-left←, union-right→, union-right←, Union, OneOf}
 
 -- ---- the same action
 
@@ -53,7 +53,8 @@ same-refl a =
 -- ---- on the right of a pair
 
 -- what an action on the right asks of the left part, and what it leaves
-on-right→ : (o : Order) (l : Chart) (a : Action) (xs : List Made) {t : Log} → Joined (Deal o) (λ s. Member l s × May o s a) (OneOf xs) t → OneOf (onRight o l (a .line) xs) t
+on-right→ : (o : Order) (l : Chart) (a : Action) (xs : List Made) {t : Log}
+    → Joined (Deal o) (λ s. Member l s × May o s a) (OneOf xs) t → OneOf (onRight o l (a .line) xs) t
 on-right→ strict l a xs (joined s u (m, only) w x) = some-if← (terminates l) xs (terminates← l m) (subst (OneOf xs) (deal-left-is-empty x) w)
 on-right→ seq l a xs {t} (joined s u (m, e) w x) =
     let pass = lets-pass← l (a .line) s m e in
@@ -62,7 +63,8 @@ on-right→ seq l a xs {t} (joined s u (m, e) w x) =
     (union-right→ (λ y. Member (y .chart)) (joined s u (passed-keeps l (a .line) pass s .1 (m, e)) w x)))
 on-right→ par l a xs (joined s u (m, e) w x) = some-map← (over (pair par l)) (union-right→ (λ y. Member (y .chart)) (joined s u m w x))
 
-on-right← : (o : Order) (l : Chart) (a : Action) (xs : List Made) {t : Log} → OneOf (onRight o l (a .line) xs) t → Joined (Deal o) (λ s. Member l s × May o s a) (OneOf xs) t
+on-right← : (o : Order) (l : Chart) (a : Action) (xs : List Made) {t : Log} → OneOf (onRight o l (a .line) xs) t
+    → Joined (Deal o) (λ s. Member l s × May o s a) (OneOf xs) t
 on-right← strict l a xs {t} w = let (h, v) = some-if→ (terminates l) xs w in joined [] t (terminates→ l h, only) v (deal-all-right strict t)
 on-right← seq l a xs w =
     let (h, v) = some-if→ (letsPass l (a .line)) (map (overBoth (pair seq) (passed l (a .line))) xs) w in
@@ -77,7 +79,8 @@ on-right← par l a xs w =
 abbrev Follow : Chart → Action → List Made → Type 0
 Follow c a xs = (t : Log) → Member c (a ∷ t) ↔ OneOf xs t
 
-pair-follows : (o : Order) (l r : Chart) (a : Action) (xs ys : List Made) → Follow l a xs → Follow r a ys → Follow (pair o l r) a (map (over (λ x. pair o x r)) xs ++ onRight o l (a .line) ys)
+pair-follows : (o : Order) (l r : Chart) (a : Action) (xs ys : List Made) → Follow l a xs → Follow r a ys
+    → Follow (pair o l r) a (map (over (λ x. pair o x r)) xs ++ onRight o l (a .line) ys)
 pair-follows o l r a xs ys f g t = (forth, λ w. back (some-append (map (over (λ x. pair o x r)) xs) (onRight o l (a .line) ys) w))
   where
     forth : Member (pair o l r) (a ∷ t) → OneOf (map (over (λ x. pair o x r)) xs ++ onRight o l (a .line) ys) t
@@ -100,24 +103,30 @@ pair-follows o l r a xs ys f g t = (forth, λ w. back (some-append (map (over (�
 -- ---- a loop
 
 -- the rest of a round and the loop, as one of the charts that the round's follow-ups give
-begun→ : (k : Loop) (b : Chart) (a : Action) (xs : List Made) → Follow b a xs → (t : Log) → Begun k (Member b) a t → Union (λ y. Member (begun k b y .chart)) xs t
+begun→ : (k : Loop) (b : Chart) (a : Action) (xs : List Made) → Follow b a xs → (t : Log) → Begun k (Member b) a t
+    → Union (λ y. Member (begun k b y .chart)) xs t
 begun→ k b a xs f t j = union-left→ (λ y. Member (y .chart)) (joined-implies (λ s. f s .0) (λ u n. n) j)
 
-begun← : (k : Loop) (b : Chart) (a : Action) (xs : List Made) → Follow b a xs → (t : Log) → Union (λ y. Member (begun k b y .chart)) xs t → Begun k (Member b) a t
+begun← : (k : Loop) (b : Chart) (a : Action) (xs : List Made) → Follow b a xs → (t : Log)
+    → Union (λ y. Member (begun k b y .chart)) xs t → Begun k (Member b) a t
 begun← k b a xs f t w = joined-implies (λ s. f s .1) (λ u n. n) (union-left← (λ y. Member (y .chart)) w)
 
 -- a loop in which the round that a log begins can be taken as the first
-first-follows : (k : Loop) (b : Chart) (a : Action) (xs : List Made) → ((t : Log) → Star k (Member b) (a ∷ t) → Begun k (Member b) a t) → Follow b a xs → Follow (loop k b) a (map (begun k b) xs)
+first-follows : (k : Loop) (b : Chart) (a : Action) (xs : List Made)
+    → ((t : Log) → Star k (Member b) (a ∷ t) → Begun k (Member b) a t) → Follow b a xs
+    → Follow (loop k b) a (map (begun k b) xs)
 first-follows k b a xs first f t = (
   λ m. some-map← (begun k b) (begun→ k b a xs f t (first t m)),
   λ w. begins k (Member b) (begun← k b a xs f t (some-map→ (begun k b) xs w)),
 )
 
 -- the weak loop, with what is left of the loop in front
-weak-follows : (b : Chart) (a : Action) (xs : List Made) → Follow b a xs → Follow (loop (each seq) b) a (map (afterRound (each seq) b (a .line)) xs)
-weak-follows b a xs f t = (λ m. forth (weak-begins→ (Member b) m), λ w. back (union-right← (λ y. Member (begun (each seq) b y .chart)) (some-map→ (afterRound (each seq) b (a .line)) xs w)))
+weak-follows : (b : Chart) (a : Action) (xs : List Made) → Follow b a xs
+    → Follow (loop (each seq) b) a (map (afterRound (each seq) b (a .line)) xs)
+weak-follows b a xs f t = (λ m. forth (weak-begins→ (Member b) m), λ w. back (some-map→ (afterRound (each seq) b (a .line)) xs w))
   where
-    front : (s : Log) → Member (passed (loop (each seq) b) (a .line) .chart) s ↔ (Star (each seq) (Member b) s × Clear (a .line) s)
+    front : (s : Log)
+        → Member (passed (loop (each seq) b) (a .line) .chart) s ↔ (Star (each seq) (Member b) s × Clear (a .line) s)
     front = passed-keeps (loop (each seq) b) (a .line) tt
 
     forth : Fronted (Member b) a t → OneOf (map (afterRound (each seq) b (a .line)) xs) t
@@ -125,11 +134,13 @@ weak-follows b a xs f t = (λ m. forth (weak-begins→ (Member b) m), λ w. back
         some-map← (afterRound (each seq) b (a .line))
         (union-right→ (λ y. Member (begun (each seq) b y .chart)) (joined-implies (λ s. front s .1) (begun→ (each seq) b a xs f) j))
 
-    back : Joined (Deal seq) (Member (passed (loop (each seq) b) (a .line) .chart)) (Union (λ y. Member (begun (each seq) b y .chart)) xs) t → Star (each seq) (Member b) (a ∷ t)
-    back (joined s u m w x) =
-        let (v, e) = front s .0 m in weak-begins← (Member b) v e (begun← (each seq) b a xs f u w) x
+    back : Union (λ x. Member (afterRound (each seq) b (a .line) x .chart)) xs t → Star (each seq) (Member b) (a ∷ t)
+    back w =
+        weak-begins← (Member b)
+        (joined-implies (λ s. front s .0) (begun← (each seq) b a xs f) (union-right← (λ y. Member (begun (each seq) b y .chart)) w))
 
-loop-follows : (k : Loop) (b : Chart) (a : Action) (xs : List Made) → Follow b a xs → Follow (loop k b) a (map (afterRound k b (a .line)) xs)
+loop-follows : (k : Loop) (b : Chart) (a : Action) (xs : List Made) → Follow b a xs
+    → Follow (loop k b) a (map (afterRound k b (a .line)) xs)
 loop-follows (each strict) b a xs = first-follows (each strict) b a xs (λ t. strict-begins (Member b))
 loop-follows (each seq) b a xs = weak-follows b a xs
 loop-follows (each par) b a xs = first-follows (each par) b a xs (λ t. parallel-begins (Member b))

@@ -1,9 +1,10 @@
 -- What the three verdicts tell, of any set of logs that the search decides.
 --
--- The search decides a set if it accepts exactly its logs and otherwise stops at the longest opening. Then a refused log that was used up begins a
--- longer log of the set, and one that was not begins none. Last, the search decides the published set of a chart.
+-- The search decides a set if it accepts exactly its logs and otherwise stops at the longest opening. Then a refused
+-- log that was used up begins a longer log of the set, and one that was not begins none. Last, the search decides the
+-- published set of a chart.
 -- Assumes nothing.
-use Prim.Native.Nat.{ℕ, suc, _≤_, _<_}
+use Prim.Native.Nat.{ℕ, _≤_, _<_}
 use native.Mathlib.Nat.{le-refl, le-antisymm, not-le-of-lt, lt-of-not-le}
 use native.Mathlib.Omega.{arith}
 use mathlib.Core.Bool.{Bool, true, false, not}
@@ -13,7 +14,7 @@ use mathlib.Core.Path.{_≡_, refl, sym, subst}
 use lib.Dec.{T, ltb, ltb→lt, nltb→le}
 use lib.ListN.{length, take}
 use lib.Seq.{take-length}
-use Rattle.chart.specs.Action.{Action, Log}
+use Rattle.chart.specs.Action.{Log}
 use Rattle.chart.specs.Chart.{Chart, size}
 use Rattle.chart.specs.Traces.{Traces}
 use Rattle.chart.specs.Openings.{Begins, Longer, Longest}
@@ -37,7 +38,8 @@ UsedUp long (refused deepest run) = long ≤ deepest
 
 -- ---- the number tells the outcome
 
-unaccepted-is : (d long : ℕ) (p : Bool) → (T p → d < long) → (T (not p) → long ≤ d) → ((unaccepted p ≡ 22) ↔ (d < long)) × ((unaccepted p ≡ 21) ↔ (long ≤ d)) × (unaccepted p ≢ 20)
+unaccepted-is : (d long : ℕ) (p : Bool) → (T p → d < long) → (T (not p) → long ≤ d)
+    → ((unaccepted p ≡ 22) ↔ (d < long)) × ((unaccepted p ≡ 21) ↔ (long ≤ d)) × (unaccepted p ≢ 20)
 unaccepted-is d long true f f⁻ =
     let h = f tt in ((λ e. h, λ g. refl), (λ e. absurd (omega arith), λ g. absurd (not-le-of-lt h g)), λ e. omega arith)
 unaccepted-is d long false f f⁻ =
@@ -101,15 +103,18 @@ module _ (M : Traces) (t : Log) where
 
   -- ---- the three places
 
-  pub accepted-place : (o : Outcome) (s p : ℕ) → verdict (length t) o s p .number ≡ 20 → verdict (length t) o s p .place ≡ length t
+  pub accepted-place : (o : Outcome) (s p : ℕ) → verdict (length t) o s p .number ≡ 20
+      → verdict (length t) o s p .place ≡ length t
   accepted-place (accepted run) s p e = refl
   accepted-place (refused d run) s p e = absurd (twenty-accepts (length t) s p (refused d run) .0 e)
 
-  pub short-place : (o : Outcome) (s p : ℕ) → Decides M t o → verdict (length t) o s p .number ≡ 21 → verdict (length t) o s p .place ≡ length t
+  pub short-place : (o : Outcome) (s p : ℕ) → Decides M t o → verdict (length t) o s p .number ≡ 21
+      → verdict (length t) o s p .place ≡ length t
   short-place (accepted run) s p k e = refl
   short-place (refused d run) s p k e = le-antisymm (k .refuses .within) (twenty-one-used-up (length t) s p (refused d run) .0 e)
 
-  pub deviates-place : (o : Outcome) (s p : ℕ) → Decides M t o → verdict (length t) o s p .number ≡ 22 → Longest M t (verdict (length t) o s p .place)
+  pub deviates-place : (o : Outcome) (s p : ℕ) → Decides M t o → verdict (length t) o s p .number ≡ 22
+      → Longest M t (verdict (length t) o s p .place)
   deviates-place (accepted run) s p k e = absurd (twenty-two-deviates (length t) s p (accepted run) .0 e)
   deviates-place (refused d run) s p k e = k .refuses
 

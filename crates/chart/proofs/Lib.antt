@@ -13,4 +13,4 @@ pub mod Agreement
 pub mod Judging
 pub mod Nesting
 pub mod Demands
-pub mod Rows
+pub mod ByHand

@@ -1,18 +1,17 @@
 -- The first action of a loop's log, and the round that it comes from.
 --
--- The strict, head and parallel loop: the round can be taken as the first. In a strict loop the rounds before it are empty; in a head loop it
--- is the first; in a parallel loop it may change places with the rounds before it. So the log goes on with the rest of the round
--- and the loop, in the loop's order.
--- The weak loop: the rounds before it are gathered in front, which by regrouping is again a log of the loop, clear of the action's lifeline;
--- after it the rest of the round and the loop.
+-- The strict, head and parallel loop: the round can be taken as the first. In a strict loop the rounds before it are
+-- empty; in a head loop it is the first; in a parallel loop it may change places with the rounds before it. So the
+-- log goes on with the rest of the round and the loop, in the loop's order.
+-- The weak loop: the rounds before it are gathered in front, which by regrouping is again a log of the loop, clear of
+-- the action's lifeline; after it the rest of the round and the loop.
 -- Assumes nothing.
-use Prim.Native.Nat.{ℕ}
 use mathlib.Core.List.{[], _∷_}
-use mathlib.Core.Path.{subst, sym}
+use mathlib.Core.Path.{subst}
 use Rattle.chart.specs.Action.{Action, Log, Clear}
-use Rattle.chart.specs.Chart.{Order, strict, seq, par, Loop, each, head}
+use Rattle.chart.specs.Chart.{strict, seq, par, Loop, each, head}
 use Rattle.chart.specs.Traces.{Traces, only, Joined, joined}
-use Rattle.chart.specs.Member.{Deal, done, left, right, Round, dealt, headed, Star, none, more}
+use Rattle.chart.specs.Member.{Deal, left, right, Round, dealt, headed, Star, none, more}
 use Rattle.chart.specs.Executing.{between}
 use Rattle.chart.proofs.Deals.{deal-all-right, deal-left-is-empty, deal-every→, deal-every←, deal-regroups-left, deal-regroups-right, deal-exchanges}
 
@@ -46,7 +45,8 @@ parallel-begins M {a} (more m v (dealt (right {u = u} {t = t} n x))) = exchange 
 
 -- ---- weak loop
 
--- What goes on after a: earlier rounds that are clear of a's lifeline, then the rest of a round that began with a, and the loop.
+-- What goes on after a: earlier rounds that are clear of a's lifeline, then the rest of a round that began with a,
+-- and the loop.
 abbrev pub Fronted : Traces → Action → Traces
 Fronted M a = Joined (Deal seq) (λ f. Star (each seq) M f × Clear (a .line) f) (Begun (each seq) M a)
 
@@ -58,9 +58,13 @@ weak-begins→ M {a} (more m v (dealt (right {u = u} {t = t} n x))) = regroup (w
     regroup (joined f w (v′, e) b y) =
         let (r, z, z′) = deal-regroups-left x y in joined r w (more m v′ (dealt z), deal-every← _ z n e) b z′
 
-pub weak-begins← : (M : Traces) {a : Action} {t f w : Log} → Star (each seq) M f → Clear (a .line) f → Begun (each seq) M a w → Deal seq f w t → Star (each seq) M (a ∷ t)
-weak-begins← M {a} none e b x = begins (each seq) M (subst (Begun (each seq) M a) (deal-left-is-empty x) b)
-weak-begins← M (more m v (dealt z)) e b x =
+put-before : (M : Traces) {a : Action} {t f w : Log} → Star (each seq) M f → Clear (a .line) f → Begun (each seq) M a w
+    → Deal seq f w t → Star (each seq) M (a ∷ t)
+put-before M {a} none e b x = begins (each seq) M (subst (Begun (each seq) M a) (deal-left-is-empty x) b)
+put-before M (more m v (dealt z)) e b x =
     let (r, y, y′) = deal-regroups-right x z in
     let (es, ef) = deal-every→ _ z e in
-    more m (weak-begins← M v ef b y) (dealt (right es y′))
+    more m (put-before M v ef b y) (dealt (right es y′))
+
+pub weak-begins← : (M : Traces) {a : Action} {t : Log} → Fronted M a t → Star (each seq) M (a ∷ t)
+weak-begins← M (joined f w (v, e) b x) = put-before M v e b x

@@ -1,13 +1,14 @@
 -- Pruning keeps exactly the logs that avoid d, and prunes nothing twice.
 --
--- By induction on the chart. A deal avoids d exactly if both of its parts do, so pairs and rounds prune part by part. A side of an alt, or
--- the body of a loop, that does not evade d has no log that avoids d: dropping it loses none, and a loop is left with no round.
+-- By induction on the chart. A deal avoids d exactly if both of its parts do, so pairs and rounds prune part by part.
+-- A side of an alt, or the body of a loop, that does not evade d has no log that avoids d: dropping it loses none,
+-- and a loop is left with no round.
 -- Assumes nothing.
 use Prim.Native.Nat.{ℕ}
 use mathlib.Core.Bool.{Bool, true, false}
 use mathlib.Core.List.{[], _∷_}
 use mathlib.Core.Logic.{_↔_, _⊎_, inl, inr, ⊎-map, ⊎-elim}
-use mathlib.Core.Path.{_≡_, refl, sym, ap, ap₂, subst}
+use mathlib.Core.Path.{_≡_, refl, ap, ap₂}
 use lib.Dec.{T}
 use Rattle.chart.specs.Action.{Action, Log, Every, Avoids, Clear}
 use Rattle.chart.specs.Chart.{Order, Loop, Chart, empty, act, alt, pair, loop}
@@ -80,7 +81,8 @@ alt-keeps d l r m n false true f f⁻ g g⁻ h t = (
 alt-keeps d l r m n false false f f⁻ g g⁻ (inl h) t = absurd h
 alt-keeps d l r m n false false f f⁻ g g⁻ (inr h) t = absurd h
 
-pair-keeps : (d : ℕ) (o : Order) (L M L′ M′ : Traces) → Keeps d L L′ → Keeps d M M′ → Keeps d (Joined (Deal o) L M) (Joined (Deal o) L′ M′)
+pair-keeps : (d : ℕ) (o : Order) (L M L′ M′ : Traces) → Keeps d L L′ → Keeps d M M′
+    → Keeps d (Joined (Deal o) L M) (Joined (Deal o) L′ M′)
 pair-keeps d o L M L′ M′ f g t = (there, λ w. back (w .0) (w .1))
   where
     there : Joined (Deal o) L′ M′ t → Joined (Deal o) L M t × Avoids d t
@@ -132,7 +134,8 @@ pruned-evades c d h = let (t, m, e) = evades→ c d h in evades← (prune c d .c
 abbrev Settled : ℕ → Made → Type 0
 Settled d m = T (evades (m .chart) d) × (prune (m .chart) d .chart ≡ m .chart)
 
-alt-settled : (d : ℕ) (m n : Made) (p q : Bool) → (T p → Settled d m) → (T q → Settled d n) → T p ⊎ T q → prune (prunedAlt p q m n .chart) d .chart ≡ prunedAlt p q m n .chart
+alt-settled : (d : ℕ) (m n : Made) (p q : Bool) → (T p → Settled d m) → (T q → Settled d n) → T p ⊎ T q
+    → prune (prunedAlt p q m n .chart) d .chart ≡ prunedAlt p q m n .chart
 unfolding prune
 alt-settled d m n true true f g h =
     rw (passes (evades (m .chart) d) (f tt .0), passes (evades (n .chart) d) (g tt .0)) (ap₂ alt (f tt .1) (g tt .1))
@@ -141,7 +144,8 @@ alt-settled d m n false true f g h = g tt .1
 alt-settled d m n false false f g (inl h) = absurd h
 alt-settled d m n false false f g (inr h) = absurd h
 
-loop-settled : (d : ℕ) (k : Loop) (m : Made) (p : Bool) → (T p → Settled d m) → prune (prunedLoop p k m .chart) d .chart ≡ prunedLoop p k m .chart
+loop-settled : (d : ℕ) (k : Loop) (m : Made) (p : Bool) → (T p → Settled d m)
+    → prune (prunedLoop p k m .chart) d .chart ≡ prunedLoop p k m .chart
 unfolding prune
 loop-settled d k m true f = rw (passes (evades (m .chart) d) (f tt .0)) (ap (loop k) (f tt .1))
 loop-settled d k m false f = refl
@@ -166,5 +170,6 @@ pub lets-pass← : (c : Chart) (d : ℕ) (t : Log) → Member c t → Clear d t 
 lets-pass← = evades←
 
 -- and what it becomes has exactly these logs.
-pub passed-keeps : (c : Chart) (d : ℕ) → T (letsPass c d) → (t : Log) → Member (passed c d .chart) t ↔ (Member c t × Clear d t)
+pub passed-keeps : (c : Chart) (d : ℕ) → T (letsPass c d) → (t : Log)
+    → Member (passed c d .chart) t ↔ (Member c t × Clear d t)
 passed-keeps = prune-keeps

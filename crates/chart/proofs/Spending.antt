@@ -1,14 +1,15 @@
--- A run spent against an allowance and a room: it goes through whole exactly if the allowance reaches its length and the room its most;
--- else it stops at the first follow-up that may not be made, with 9 if the allowance is spent there, and with 10 if only the room is.
+-- A run spent against an allowance and a room: it goes through whole exactly if the allowance reaches its length and
+-- the room its most; else it stops at the first follow-up that may not be made, with 9 if the allowance is spent
+-- there, and with 10 if only the room is.
 --
 -- By induction on the run, from any steps made and places in use so far.
 -- Assumes nothing.
-use Prim.Native.Nat.{ℕ, zero, suc, _+_, _≤_, _<_, max, zero-le, suc-le-suc}
+use Prim.Native.Nat.{ℕ, suc, _+_, _≤_, _<_, max, zero-le, suc-le-suc}
 use native.Mathlib.Nat.{add-zero, max-le}
 use native.Mathlib.Omega.{arith}
 use mathlib.Core.Bool.{Bool, true, false, not}
 use mathlib.Core.List.{List, [], _∷_}
-use mathlib.Core.Path.{_≡_, refl, sym, ap, ap₂, _∙_}
+use mathlib.Core.Path.{_≡_, sym, ap, ap₂, _∙_}
 use lib.Dec.{T, leb, ltb, leb→le, nleb→lt, ltb→lt, nltb→le}
 use lib.ListN.{length, take, getD}
 use Rattle.chart.specs.Searching.{most}
@@ -24,8 +25,8 @@ step-later : (s k : ℕ) → suc s + k ≡ s + suc k
 step-later s k = omega arith
 
 module _ (allowance room : ℕ) where
-  -- What a run comes to, from s steps made and p places in use: it goes through; or its first k follow-ups are made, and the next one
-  -- is wanted with the allowance spent; or with the allowance not spent, but too large for the room.
+  -- What a run comes to, from s steps made and p places in use: it goes through; or its first k follow-ups are made,
+  -- and the next one is wanted with the allowance spent; or with the allowance not spent, but too large for the room.
   pub data Spent (s p : ℕ) (run : List ℕ) (end : Spending) : Type 0 where
     through : s + length run ≤ allowance → most p run ≤ room → end ≡ going (s + length run) (most p run) → Spent s p run end
     spent : (k : ℕ) → k < length run → most p (take k run) ≤ room → s + k ≡ allowance

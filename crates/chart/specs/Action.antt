@@ -34,6 +34,7 @@ Every P (a ∷ s) = P a × Every P s
 abbrev pub Avoids : ℕ → Log → Type 0
 Avoids d s = Every (λ a. a .line ≢ d) s
 
--- No action of the log is in conflict with lifeline d, so that an action on d may stand before it in seq (01, Which logs belong to a chart).
+-- No action of the log is in conflict with lifeline d, so that an action on d may stand before it in a seq
+-- (01, Which logs belong to a chart).
 abbrev pub Clear : ℕ → Log → Type 0
 Clear d s = Every (λ a. ¬ Clash (a .line) d) s

@@ -3,11 +3,13 @@
 use Prim.Native.Nat.{ℕ, _+_}
 use Rattle.chart.specs.Action.{Action}
 
--- The three ways in which two parts follow each other: strict, weak sequence and parallel (01, The chart card, kinds 3, 4, 5).
+-- The three ways in which two parts follow each other: strict, weak sequence, parallel
+-- (01, The chart card, kinds 3, 4, 5).
 pub data Order : Type 0 where
   strict seq par : Order
 
--- The four loops: each round after the last in one of the three orders, or the head loop (01, The chart card, kinds 7 to 10).
+-- The four loops: each round after the last in one of the three orders, or the head loop
+-- (01, The chart card, kinds 7 to 10).
 pub data Loop : Type 0 where
   each : Order → Loop
   head : Loop

@@ -1,5 +1,5 @@
--- How a log is executed: terminating, evading, pruning, and the follow-ups of a chart by an action, with what each costs in places.
--- One definition gives a chart and its cost together, so that the two cannot drift apart.
+-- How a log is executed: terminating, evading, pruning, and the follow-ups of a chart by an action, with what each
+-- costs in places. One definition gives a chart and its cost together, so that the two cannot drift apart.
 -- Assumes nothing.
 use Prim.Native.Nat.{ℕ, _+_}
 use mathlib.Core.Bool.{Bool, true, false, cond, not, _&&_, _||_}
@@ -8,7 +8,8 @@ use lib.Dec.{eqb}
 use Rattle.chart.specs.Action.{Action, same}
 use Rattle.chart.specs.Chart.{Order, strict, seq, par, Loop, each, head, Chart, empty, act, alt, pair, loop}
 
--- Terminates: empty and loops do; an action does not; alt if either side does; the other pairs if both do (01; 000, Definition 7).
+-- Terminates: "empty and loops do; an action does not; alt if either side does; the other pairs if both do"
+-- (01, How a log is executed; 000, Definition 7).
 abbrev pub terminates : Chart → Bool
 terminates empty = true
 terminates (act a) = false
@@ -16,8 +17,8 @@ terminates (alt l r) = terminates l || terminates r
 terminates (pair o l r) = terminates l && terminates r
 terminates (loop k b) = true
 
--- Evades lifeline d: empty and loops do; an action if it is on another lifeline; alt if either does; the other pairs if both do
--- (01; 000, Definition 8).
+-- Evades lifeline d: "empty and loops do; an action if it is on another lifeline; alt if either does; the other pairs
+-- if both do" (01, How a log is executed; 000, Definition 8).
 abbrev pub evades : Chart → ℕ → Bool
 evades empty d = true
 evades (act a) d = not (eqb (a .line) d)
@@ -46,7 +47,8 @@ over node m = record { chart = node (m .chart); cost = 1 + m .cost }
 abbrev pub overBoth : (Chart → Chart → Chart) → Made → Made → Made
 overBoth node m n = record { chart = node (m .chart) (n .chart); cost = 1 + (m .cost + n .cost) }
 
--- "Alt with one evading side becomes that side pruned; with two, an alt of both pruned." (whether each side evades, each side pruned)
+-- "Alt with one evading side becomes that side pruned; with two, an alt of both pruned."
+-- (whether the left and the right evade d; the left and the right pruned)
 abbrev pub prunedAlt : Bool → Bool → Made → Made → Made
 prunedAlt true true m n = overBoth alt m n
 prunedAlt true false m n = m
@@ -65,11 +67,11 @@ prune (alt l r) d = prunedAlt (evades l d) (evades r d) (prune l d) (prune r d)
 prune (pair o l r) d = overBoth (pair o) (prune l d) (prune r d)
 prune (loop k b) d = prunedLoop (evades b d) k (prune b d)
 
--- Whether the left of a seq lets an action on d pass: if it evades d (01, Executing).
+-- Whether the left of a seq lets an action on d pass: if it evades d (01, How a log is executed).
 abbrev pub letsPass : Chart → ℕ → Bool
 letsPass c d = evades c d
 
--- What the left of a seq becomes when an action on d has passed: it is pruned by d (01, Executing).
+-- What the left of a seq becomes when an action on d has passed: it is pruned by d (01, How a log is executed).
 abbrev pub passed : Chart → ℕ → Made
 passed c d = prune c d
 
@@ -78,8 +80,9 @@ abbrev pub between : Loop → Order
 between (each o) = o
 between head = seq
 
--- What comes of the right side's follow-ups in a pair with left side l: strict, "only if the left terminates, and the right's
--- follow-up alone remains"; seq, "only if the left evades d, and the left is pruned by d"; par, the side is replaced.
+-- What comes of the right side's follow-ups xs by an action on d, in a pair with left side l. Strict: "only if the left
+-- terminates, and the right's follow-up alone remains"; seq: "only if the left evades d, and the left is pruned by d";
+-- par: the side is replaced.
 abbrev pub onRight : Order → Chart → ℕ → List Made → List Made
 onRight strict l d xs = cond (terminates l) xs []
 onRight seq l d xs = cond (letsPass l d) (map (overBoth (pair seq) (passed l d)) xs) []
@@ -89,15 +92,16 @@ onRight par l d xs = map (over (pair par l)) xs
 abbrev pub begun : Loop → Chart → Made → Made
 begun k b x = over (λ y. pair (between k) y (loop k b)) x
 
--- "A loop whose body executes to x: strict loop gives strict(x, loop); head loop seq(x, loop); parallel loop par(x, loop);
--- weak loop seq(loop pruned by d, seq(x, loop))."
+-- "A loop whose body executes to x: strict loop gives strict(x, loop); head loop seq(x, loop);
+-- parallel loop par(x, loop); weak loop seq(loop pruned by d, seq(x, loop))."
 abbrev pub afterRound : Loop → Chart → ℕ → Made → Made
 afterRound (each strict) b d x = begun (each strict) b x
 afterRound (each seq) b d x = overBoth (pair seq) (passed (loop (each seq) b) d) (begun (each seq) b x)
 afterRound (each par) b d x = begun (each par) b x
 afterRound head b d x = begun head b x
 
--- The follow-ups of a chart by an action, occurrences from left to right (01, How a log is executed; 000, Definition 11).
+-- The follow-ups of a chart by an action, occurrences from left to right
+-- (01, How a log is executed; 000, Definition 11).
 unfoldable pub follows : Chart → Action → List Made
 follows empty a = []
 follows (act b) a = cond (same a b) (newEmpty ∷ []) []

@@ -1,13 +1,13 @@
 -- The answer to a chart and a log under an allowance of steps and a room of places.
 -- Assumes nothing.
-use Prim.Native.Nat.{ℕ, zero, suc, max}
+use Prim.Native.Nat.{ℕ, suc, max}
 use mathlib.Core.Bool.{Bool, true, false, cond}
 use mathlib.Core.List.{List, [], _∷_}
-use lib.Dec.{eqb, leb, ltb}
+use lib.Dec.{leb, ltb}
 use lib.ListN.{length}
 use Rattle.chart.specs.Action.{Log}
 use Rattle.chart.specs.Chart.{Chart, size}
-use Rattle.chart.specs.Searching.{Outcome, accepted, refused, searched, runOf}
+use Rattle.chart.specs.Searching.{Outcome, accepted, refused, searched, runOf, stepsOf, placesOf}
 
 -- What a judgment returns (01, Verdicts and numbers given).
 pub record Answer : Type 0 where
@@ -21,8 +21,8 @@ pub data Spending : Type 0 where
   going : (steps places : ℕ) → Spending
   stopped : (number steps places : ℕ) → Spending
 
--- Before each follow-up 9, "a follow-up is wanted and the allowance is spent", then 10, "the next whole follow-up exceeds the
--- usable room"; else it is made: one step more, and n places in use (01, Verdicts and numbers given).
+-- Before each follow-up 9, "a follow-up is wanted and the allowance is spent", then 10, "the next whole follow-up
+-- exceeds the usable room"; else it is made: one step more, and n places in use (01, Verdicts and numbers given).
 -- (whether the allowance is spent, whether n exceeds the room)
 abbrev pub followUp : Bool → Bool → ℕ → ℕ → ℕ → Spending
 followUp true exceeds n steps places = stopped 9 steps places
@@ -36,15 +36,20 @@ spend allowance room (stopped number steps places) (n ∷ run) = stopped number 
 spend allowance room (going steps places) (n ∷ run) =
     spend allowance room (followUp (leb allowance steps) (ltb room n) n steps places) run
 
--- A log that was not accepted: 22 deviates if none of the paths got through it, else 21 short.
+-- A log that was not accepted: 22 deviates if no path got through it, else 21 short. (whether none did)
 abbrev pub unaccepted : Bool → ℕ
 unaccepted true = 22
 unaccepted false = 21
 
--- The verdict on a log of some length: 20 accepted and 21 short give the log's length, 22 deviates the deepest opening.
+-- The verdict on a log of some length: 20 accepted and 21 short give that length, 22 deviates the deepest opening
+-- (01, Verdicts and numbers given).
 abbrev pub verdict : ℕ → Outcome → ℕ → ℕ → Answer
 verdict long (accepted run) s p = record { number = 20; place = long; steps = s; places = p }
 verdict long (refused deepest run) s p = record { number = unaccepted (ltb deepest long); place = deepest; steps = s; places = p }
+
+-- The verdict on a log of a chart, with its two figures.
+abbrev pub verdictOf : Chart → Log → Answer
+verdictOf c t = verdict (length t) (searched c t) (stepsOf c t) (placesOf c t)
 
 -- An answer with no verdict has place 0.
 abbrev pub halted : ℕ → ℕ → ℕ → Answer

@@ -10,4 +10,4 @@ pub mod Executing
 pub mod Searching
 pub mod Lending
 pub mod Reaching
-pub mod Rows
+pub mod ByHand

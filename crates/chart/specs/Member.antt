@@ -13,7 +13,8 @@ May strict s a = Only [] s
 May seq s a = Clear (a .line) s
 May par s a = Unit
 
--- A deal gives each action of the log t to one of two parts, keeping order within the part (01, Which logs belong to a chart).
+-- A deal gives each action of the log t to one of two parts s and u, keeping order within the part
+-- (01, Which logs belong to a chart).
 pub data Deal (o : Order) : Log → Log → Log → Type 0 where
   done : Deal o [] [] []
   left : {a : Action} {s u t : Log} → Deal o s u t → Deal o (a ∷ s) u (a ∷ t)

@@ -14,7 +14,8 @@ Begins M s = (u : Log) × M (s ++ u)
 abbrev pub Longer : Traces → Log → Type 0
 Longer M s = (a : Action) × (u : Log) × M (s ++ a ∷ u)
 
--- n is the length of the longest opening of t with which some log of the set begins (01, Verdicts and numbers given, 22).
+-- n is the length of the longest opening of t with which some log of the set begins
+-- (01, Verdicts and numbers given, 22).
 pub record Longest (M : Traces) (t : Log) (n : ℕ) : Type 0 where
   pub within : n ≤ length t
   pub opens : Begins M (take n t)

@@ -1,29 +1,31 @@
 -- Which logs belong to a chart, literally as document 000 prints it: sections 3 and 4, Definitions 1, 2, 3 and 5.
 -- This is the meaning that the demands speak of. The form that proofs work with is Member.antt; that the two agree
--- for every chart is proved in proofs/Agreement.antt. The equations of Definition 6 and Figure 4 are not used: one is false
--- (proofs/Nesting.antt).
+-- for every chart is proved in proofs/Agreement.antt. The equations of Figure 4 and Definition 6 are not used: one of
+-- them is false (proofs/Nesting.antt).
 -- Assumes nothing.
 use Prim.Native.Nat.{ℕ, zero, suc}
 use mathlib.Core.List.{[], _∷_, _++_}
 use mathlib.Core.Logic.{_⊎_}
 use mathlib.Core.Path.{_≡_}
 use Rattle.chart.specs.Action.{Action, Log, Clash}
-use Rattle.chart.specs.Chart.{Order, strict, seq, par, Loop, each, head, Chart, empty, act, alt, pair, loop}
+use Rattle.chart.specs.Chart.{Order, strict, seq, par, each, head, Chart, empty, act, alt, pair, loop}
 use Rattle.chart.specs.Traces.{Traces, Operator, Only, Joined}
 
 -- 000, 3.1: the set t₁ ; t₂ is { t₁.t₂ }.
 abbrev pub strictSequencing : Operator
 strictSequencing t₁ t₂ = Only (t₁ ++ t₂)
 
--- 000, 3.1, the three equations that interleaving and weak sequencing share. They differ only in the condition `free` under
--- which the first action of the right may stand before what is left of the left:
---   ε ◇ t₂ = { t₂ }      t₁ ◇ ε = { t₁ }
+-- 000, 3.1, the three equations that interleaving and weak sequencing share. They differ only in the condition `free`
+-- under which the first action of the right may stand before what is left of the left:
+--   ε ◇ t₂ = { t₂ }
+--   t₁ ◇ ε = { t₁ }
 --   (a₁.t₁) ◇ (a₂.t₂) = { a₁.t | t ∈ t₁ ◇ (a₂.t₂) } ∪ { a₂.t | t ∈ (a₁.t₁) ◇ t₂, free (a₁.t₁) a₂ }
 pub data Woven (free : Log → Action → Type 0) : Log → Log → Log → Type 0 where
   left-empty : {t₂ : Log} → Woven free [] t₂ t₂
   right-empty : {t₁ : Log} → Woven free t₁ [] t₁
   first-left : {a₁ a₂ : Action} {t₁ t₂ t : Log} → Woven free t₁ (a₂ ∷ t₂) t → Woven free (a₁ ∷ t₁) (a₂ ∷ t₂) (a₁ ∷ t)
-  first-right : {a₁ a₂ : Action} {t₁ t₂ t : Log} → free (a₁ ∷ t₁) a₂ → Woven free (a₁ ∷ t₁) t₂ t → Woven free (a₁ ∷ t₁) (a₂ ∷ t₂) (a₂ ∷ t)
+  first-right : {a₁ a₂ : Action} {t₁ t₂ t : Log} → free (a₁ ∷ t₁) a₂ → Woven free (a₁ ∷ t₁) t₂ t
+      → Woven free (a₁ ∷ t₁) (a₂ ∷ t₂) (a₂ ∷ t)
 
 -- 000, 3.1: interleaving sets no condition.
 abbrev pub interleaving : Operator

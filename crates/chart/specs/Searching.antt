@@ -8,13 +8,13 @@ use Rattle.chart.specs.Action.{Log}
 use Rattle.chart.specs.Chart.{Chart, size}
 use Rattle.chart.specs.Executing.{Made, terminates, follows}
 
--- How a search ends. The run has, for each step in turn, the places in use after it. A refused search also tells its deepest
--- opening: the most actions executed on one path.
+-- How a search ends. The run has, for each step in turn, the places in use after it. A refused search also tells its
+-- deepest opening: the most actions executed on one path.
 pub data Outcome : Type 0 where
   accepted : (run : List ℕ) → Outcome
   refused : (deepest : ℕ) (run : List ℕ) → Outcome
 
--- A choice that failed after `deepest` actions more, and then what the choices after it came to.
+-- A choice that failed `deepest` actions beyond its own, and then what the choices after it came to.
 abbrev pub orElse : ℕ → List ℕ → Outcome → Outcome
 orElse deepest run (accepted rest) = accepted (run ++ rest)
 orElse deepest run (refused deeper rest) = refused (max (suc deepest) deeper) (run ++ rest)
@@ -24,15 +24,20 @@ abbrev pub step : ℕ → Outcome → Outcome → Outcome
 step n (accepted run) rest = accepted (n ∷ run)
 step n (refused deepest run) rest = orElse deepest (n ∷ run) rest
 
--- The choices one after another, each from the same places in use: "when a choice has failed, its places are free again" (01, Search).
+-- The choices one after another, each from the same places in use: "when a choice has failed, its places are free
+-- again" (01, How a log is executed).
 unfoldable pub tries : (Chart → ℕ → Outcome) → ℕ → List Made → Outcome
 tries go used [] = refused 0 []
 tries go used (x ∷ xs) = let rest = tries go used xs in step (used + x .cost) (go (x .chart) (used + x .cost)) rest
 
--- "Depth first, occurrences of the log's next action from left to right. At the log's end a terminating chart accepts at once;
--- otherwise the search goes on with the next choice." (01, Search)
+-- "At the log's end a terminating chart accepts at once; otherwise the search goes on with the next choice"
+-- (01, How a log is executed).
+abbrev pub atEnd : Chart → Outcome
+atEnd c = cond (terminates c) (accepted []) (refused 0 [])
+
+-- "Depth first, occurrences of the log's next action from left to right" (01, How a log is executed).
 unfoldable pub explore : Log → Chart → ℕ → Outcome
-explore [] c used = cond (terminates c) (accepted []) (refused 0 [])
+explore [] c used = atEnd c
 explore (a ∷ t) c used = tries (λ x n. explore t x n) used (follows c a)
 
 -- The search of a log in a chart begins with the chart's own places in use.
@@ -44,15 +49,15 @@ abbrev pub runOf : Outcome → List ℕ
 runOf (accepted run) = run
 runOf (refused deepest run) = run
 
--- The most of the numbers, and of one more.
+-- The most of n and the numbers of a run.
 abbrev pub most : ℕ → List ℕ → ℕ
 most n run = foldr max n run
 
--- The steps of a log on a chart: the follow-ups made (01, Figures).
+-- The steps of a log on a chart: the follow-ups made (01, How a log is executed).
 abbrev pub stepsOf : Chart → Log → ℕ
 stepsOf c t = length (runOf (searched c t))
 
--- The places of a log on a chart: the most in use at one moment (01, Figures).
+-- The places of a log on a chart: the most in use at one moment (01, How a log is executed).
 abbrev pub placesOf : Chart → Log → ℕ
 placesOf c t = most (size c) (runOf (searched c t))
 

@@ -6,11 +6,12 @@ use Rattle.chart.specs.Action.{Log}
 abbrev pub Traces : Type 1
 Traces = Log → Type 0
 
--- An operator takes two logs to the set of logs that they may be composed to (000, 3.1, the profile of a scheduling operator).
+-- An operator takes two logs to the set of logs that they may be composed to
+-- (000, 3.1, the profile of the scheduling operators).
 abbrev pub Operator : Type 1
 Operator = Log → Log → Traces
 
--- The set with the one log s.
+-- The set with the one log s: { s }.
 pub data Only (s : Log) : Log → Type 0 where
   only : Only s s
 

@@ -5,7 +5,7 @@ use mathlib.Core.Path.{_≡_, refl}
 use Rattle.chart.specs.Executing.{prune, follows}
 use Rattle.chart.specs.Searching.{tries, explore}
 use Rattle.chart.specs.Lending.{Answer, spend, answer}
-use Rattle.chart.specs.Rows.{Row, rows}
+use Rattle.chart.specs.ByHand.{Row, rows}
 
 -- What a row's chart and log are answered under its lending.
 abbrev pub answered : Row → Answer
