@@ -23,7 +23,7 @@ use Rattle.chart.specs.Lending.{Answer, halted, answer}
 use Rattle.chart.specs.Reaching.{Reaches, Verdict, Wants, Exceeds}
 use Rattle.chart.proofs.Agreement.{evades-iff-some-published-log-avoids, prune-keeps-published}
 use Rattle.chart.proofs.Extending.{answer-extends}
-use Rattle.chart.proofs.Answering.{reached-answer, of-verdict, reaches-verdict, verdict-reaches, spent-answer, nine-wants, wants-nine, too-large-answer, exceeded-answer, exceeds-ten, ten-exceeds, no-other-number}
+use Rattle.chart.proofs.Answering.{reached-answer, of-verdict, spent-answer, too-large-answer, exceeded-answer, verdict-iff-reaches, nine-iff-wants, ten-iff-exceeds, no-other-number}
 use Rattle.chart.proofs.Judging.{accepted-iff, short-iff, deviates-iff, accepted-place, short-place, deviates-place, verdict-figures, deviates-begins-none, search-decides-the-published-set}
 
 module _ (c : Chart) (t : Log) (allowance room : ℕ) where
@@ -58,20 +58,20 @@ module _ (c : Chart) (t : Log) (allowance room : ℕ) where
       → Longest (Published c) t (given .place)
   deviates-at-the-longest-opening e =
       of-verdict c t allowance room (λ a. a .number ≡ 22 → Longest (Published c) t (a .place))
-      (verdict-reaches c t allowance room (inr (inr e)))
+      (verdict-iff-reaches c t allowance room .0 (inr (inr e)))
       (deviates-place (Published c) t (searched c t) (stepsOf c t) (placesOf c t) (search-decides-the-published-set c t)) e
 
   -- 01, Verdicts and numbers given: 20 and 21 give the log's length.
   pub accepted-gives-the-length : given .number ≡ 20 → given .place ≡ length t
   accepted-gives-the-length e =
       of-verdict c t allowance room (λ a. a .number ≡ 20 → a .place ≡ length t)
-      (verdict-reaches c t allowance room (inl e))
+      (verdict-iff-reaches c t allowance room .0 (inl e))
       (accepted-place (Published c) t (searched c t) (stepsOf c t) (placesOf c t)) e
 
   pub short-gives-the-length : given .number ≡ 21 → given .place ≡ length t
   short-gives-the-length e =
       of-verdict c t allowance room (λ a. a .number ≡ 21 → a .place ≡ length t)
-      (verdict-reaches c t allowance room (inr (inl e)))
+      (verdict-iff-reaches c t allowance room .0 (inr (inl e)))
       (short-place (Published c) t (searched c t) (stepsOf c t) (placesOf c t) (search-decides-the-published-set c t)) e
 
   -- ---- Demand 3: steps and places
@@ -79,7 +79,7 @@ module _ (c : Chart) (t : Log) (allowance room : ℕ) where
   -- "Chart and log fix a number of steps and of places." They are `stepsOf c t` and `placesOf c t`: no lending stands
   -- in them. "A verdict comes exactly when allowance and usable room reach them,
   pub verdict-exactly-when-reached : Verdict (given .number) ↔ Reaches c t allowance room
-  verdict-exactly-when-reached = (verdict-reaches c t allowance room, reaches-verdict c t allowance room)
+  verdict-exactly-when-reached = verdict-iff-reaches c t allowance room
 
   -- and is then the same whatever more is lent."
   pub same-whatever-more-is-lent : (more moreRoom : ℕ) → Reaches c t allowance room → Reaches c t more moreRoom
@@ -99,16 +99,16 @@ module _ (c : Chart) (t : Log) (allowance room : ℕ) where
 
   -- 01: 9 exactly if "a follow-up is wanted and the allowance is spent", whatever room it would take,
   pub nine-exactly-if-the-allowance-is-spent : (given .number ≡ 9) ↔ Wants c t room allowance
-  nine-exactly-if-the-allowance-is-spent = (nine-wants c t allowance room, wants-nine c t allowance room)
+  nine-exactly-if-the-allowance-is-spent = nine-iff-wants c t allowance room
 
   -- with the figures reached so far.
   pub nine-has-the-figures-reached : given .number ≡ 9
       → given ≡ halted 9 allowance (placesAfter c t allowance)
-  nine-has-the-figures-reached e = spent-answer c t allowance room (nine-wants c t allowance room e)
+  nine-has-the-figures-reached e = spent-answer c t allowance room (nine-iff-wants c t allowance room .0 e)
 
   -- 01: 10 exactly if "the chart, or the next whole follow-up, exceeds the usable room", the allowance not spent;
   pub ten-exactly-if-the-room-is-exceeded : (given .number ≡ 10) ↔ ((room < size c) ⊎ ((k : ℕ) × Exceeds c t allowance room k))
-  ten-exactly-if-the-room-is-exceeded = (ten-exceeds c t allowance room, exceeds-ten c t allowance room)
+  ten-exactly-if-the-room-is-exceeded = ten-iff-exceeds c t allowance room
 
   -- no figures if it is the chart, else the figures reached so far.
   pub ten-has-no-figures-for-the-chart : room < size c → given ≡ halted 10 0 0
@@ -123,7 +123,7 @@ module _ (c : Chart) (t : Log) (allowance room : ℕ) where
   pub once-deviating-the-same-for-ever : given .number ≡ 22 → (u : Log) (lent lentRoom : ℕ)
       → answer c (t ++ u) lent lentRoom ≡ answer c t lent lentRoom
   once-deviating-the-same-for-ever e u lent lentRoom =
-      let none = deviates-exactly-if-it-begins-none (verdict-reaches c t allowance room (inr (inr e))) .0 e in
+      let none = deviates-exactly-if-it-begins-none (verdict-iff-reaches c t allowance room .0 (inr (inr e))) .0 e in
       answer-extends c t u lent lentRoom
       (deviates-begins-none (Published c) t (searched c t) (search-decides-the-published-set c t) .1 none)
 

@@ -1,3 +1,4 @@
+-- Laws of the definitions in specs/, lowest first. A reader of the demands begins at the end, with Demands.
 pub mod Tests
 pub mod Deals
 pub mod Evading
@@ -11,6 +12,6 @@ pub mod Spending
 pub mod Answering
 pub mod Agreement
 pub mod Judging
+pub mod ByHand
 pub mod Nesting
 pub mod Demands
-pub mod ByHand
