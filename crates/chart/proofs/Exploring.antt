@@ -34,7 +34,7 @@ Accepts (refused deepest run) = ⊥
 step-accepts : {P : Made → Type 0} (n : ℕ) (x : Made) (xs : List Made) (first rest : Outcome) → Accepts first ↔ P x
     → Accepts rest ↔ Some P xs → Accepts (step n first rest) ↔ Some P (x ∷ xs)
 step-accepts n x xs (accepted run) rest f g = (λ h. here (f .0 tt), λ w. tt)
-step-accepts {P} n x xs (refused d run) (accepted more) f g = (λ h. there (g .0 tt), λ w. tt)
+step-accepts n x xs (refused d run) (accepted more) f g = (λ h. there (g .0 tt), λ w. tt)
 step-accepts {P} n x xs (refused d run) (refused e more) f g = (λ h. absurd h, none)
   where
     none : Some P (x ∷ xs) → ⊥

@@ -3,8 +3,8 @@
 pub mod Action
 pub mod Chart
 pub mod Traces
-pub mod Openings
 pub mod Published
+pub mod Openings
 pub mod Member
 pub mod Executing
 pub mod Searching
