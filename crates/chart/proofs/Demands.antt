@@ -23,7 +23,7 @@ use Rattle.chart.specs.Lending.{Answer, halted, answer}
 use Rattle.chart.specs.Reaching.{Reaches, Verdict, Wants, Exceeds}
 use Rattle.chart.proofs.Agreement.{evades-iff-some-published-log-avoids, prune-keeps-published}
 use Rattle.chart.proofs.Extending.{answer-extends}
-use Rattle.chart.proofs.Answering.{reached-answer, of-verdict, spent-answer, too-large-answer, exceeded-answer, verdict-iff-reaches, nine-iff-wants, ten-iff-exceeds, no-other-number}
+use Rattle.chart.proofs.Numbers.{reached-answer, of-verdict, spent-answer, too-large-answer, exceeded-answer, verdict-iff-reaches, nine-iff-wants, ten-iff-exceeds, no-other-number}
 use Rattle.chart.proofs.Judging.{accepted-iff, short-iff, deviates-iff, accepted-place, short-place, deviates-place, verdict-figures, deviates-begins-none, search-decides-the-published-set}
 
 module _ (c : Chart) (t : Log) (allowance room : ℕ) where

@@ -3,19 +3,20 @@
 -- By induction on the log. If the deepest opening of all choices is short of the log's end, then so is that of each
 -- choice, and nobody looks at what stands beyond.
 -- Assumes nothing.
-use Prim.Native.Nat.{ℕ, suc, _+_, _≤_, _<_, suc-le-suc}
+use Prim.Native.Nat.{ℕ, suc, _+_, _≤_, _<_, max, suc-le-suc}
 use native.Mathlib.Nat.{not-suc-le-zero, le-of-suc-le-suc, le-trans, le-max-left, le-max-right, le-add-right}
 use mathlib.Core.Bool.{Bool, true, false, cond}
 use mathlib.Core.List.{List, [], _∷_, _++_}
 use mathlib.Core.Path.{_≡_, refl, sym, ap, ap₂, _∙_, subst}
-use lib.Dec.{ltb, lt→ltb}
+use lib.Dec.{leb, ltb, lt→ltb}
 use lib.ListN.{length, length-append}
 use Rattle.chart.specs.Action.{Log}
 use Rattle.chart.specs.Chart.{Chart, size}
 use Rattle.chart.specs.Executing.{Made, terminates, follows}
-use Rattle.chart.specs.Searching.{Outcome, accepted, refused, step, tries, explore, searched, runOf}
-use Rattle.chart.specs.Lending.{Spending, going, stopped, spend, unaccepted, halted, ended, concluded, answer}
+use Rattle.chart.specs.Searching.{Outcome, accepted, refused, step, tries, explore, searched}
+use Rattle.chart.specs.Lending.{Answer, Ending, failed, followUp, unaccepted, halted, told, answer}
 use Rattle.chart.proofs.Tests.{passes}
+use Rattle.chart.proofs.Walking.{spend, spent, answer-is-spent}
 
 -- The search refused before it got through n actions.
 abbrev pub Deviates : ℕ → Outcome → Type 0
@@ -57,23 +58,39 @@ unaccepted-extends : (d long more : ℕ) → d < long → long ≤ more → unac
 unaccepted-extends d long more h g =
     ap unaccepted (passes (ltb d more) (lt→ltb d more (le-trans h g)) ∙ sym (passes (ltb d long) (lt→ltb d long h)))
 
-ended-extends : (long more : ℕ) (o : Outcome) (end : Spending) → Deviates long o → long ≤ more
-    → ended more o end ≡ ended long o end
-ended-extends long more o (stopped number s p) h g = refl
-ended-extends long more (refused d run) (going s p) h g =
+told-extends : (d long more : ℕ) → d < long → long ≤ more → (s p : ℕ) → told more (failed d s p) ≡ told long (failed d s p)
+told-extends d long more h g s p =
     ap (λ (n : ℕ). record { number = n; place = d; steps = s; places = p }) (unaccepted-extends d long more h g)
-ended-extends long more (accepted run) (going s p) h g = absurd h
 
-concluded-extends : (nodes long more : ℕ) (o : Outcome) (allowance room : ℕ) → Deviates long o → long ≤ more
-    → concluded nodes more o allowance room ≡ concluded nodes long o allowance room
-concluded-extends nodes long more o allowance room h g =
-    ap (cond (ltb room nodes) (halted 10 0 0)) (ended-extends long more o (spend allowance room (going 0 nodes) (runOf o)) h g)
+module _ (allowance room long more : ℕ) where
+  -- an ending that is told alike of both lengths
+  abbrev ToldAlike : Ending → Type 0
+  ToldAlike w = told more w ≡ told long w
+
+  next-extends : (b e : Bool) (n : ℕ) (on : ℕ → ℕ → Ending) → ((s p : ℕ) → ToldAlike (on s p)) → (s p : ℕ)
+      → ToldAlike (followUp b e n on s p)
+  next-extends true e n on h s p = refl
+  next-extends false true n on h s p = refl
+  next-extends false false n on h s p = h (suc s) (max p n)
+
+  spend-extends : (run : List ℕ) (on : ℕ → ℕ → Ending) → ((s p : ℕ) → ToldAlike (on s p)) → (s p : ℕ)
+      → ToldAlike (spend allowance room run on s p)
+  unfolding spend
+  spend-extends [] on h s p = h s p
+  spend-extends (n ∷ run) on h s p =
+      next-extends (leb allowance s) (ltb room n) n (spend allowance room run on) (spend-extends run on h) s p
+
+  spent-extends : (o : Outcome) → Deviates long o → long ≤ more → (s p : ℕ) → ToldAlike (spent allowance room o s p)
+  spent-extends (refused d run) h g = spend-extends run (failed d) (told-extends d long more h g)
+  spent-extends (accepted run) h g = absurd h
 
 -- A log that deviates and every longer log that begins with it get one answer, from every lending.
 pub answer-extends : (c : Chart) (t u : Log) (allowance room : ℕ) → Deviates (length t) (searched c t)
     → answer c (t ++ u) allowance room ≡ answer c t allowance room
-unfolding answer
 answer-extends c t u allowance room h =
     let longer = subst (λ (n : ℕ). length t ≤ n) (sym (length-append t u)) (le-add-right (length t) (length u)) in
-    ap (λ (o : Outcome). concluded (size c) (length (t ++ u)) o allowance room) (explore-extends t u c (size c) h)
-    ∙ concluded-extends (size c) (length t) (length (t ++ u)) (searched c t) allowance room h longer
+    let fits : Answer → Answer = cond (ltb room (size c)) (halted 10 0 0) in
+    answer-is-spent c (t ++ u) allowance room
+    ∙ ap (λ (o : Outcome). fits (told (length (t ++ u)) (spent allowance room o 0 (size c)))) (explore-extends t u c (size c) h)
+    ∙ ap fits (spent-extends allowance room (length t) (length (t ++ u)) (searched c t) h longer 0 (size c))
+    ∙ sym (answer-is-spent c t allowance room)

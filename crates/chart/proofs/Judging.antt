@@ -21,7 +21,8 @@ use Rattle.chart.specs.Openings.{Begins, Longer, Longest}
 use Rattle.chart.specs.Published.{Published}
 use Rattle.chart.specs.Member.{Member}
 use Rattle.chart.specs.Searching.{Outcome, accepted, refused, searched}
-use Rattle.chart.specs.Lending.{unaccepted, verdict}
+use Rattle.chart.specs.Lending.{unaccepted}
+use Rattle.chart.proofs.Walking.{verdict}
 use Rattle.chart.proofs.Agreement.{published-iff-member}
 use Rattle.chart.proofs.Exploring.{Accepts, Refuses, explore-accepts-iff-member, explore-refuses-at-the-longest}
 use Rattle.chart.proofs.Extending.{Deviates}

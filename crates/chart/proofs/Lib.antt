@@ -8,8 +8,9 @@ pub mod Choices
 pub mod Following
 pub mod Exploring
 pub mod Extending
+pub mod Walking
 pub mod Spending
-pub mod Answering
+pub mod Numbers
 pub mod Agreement
 pub mod Judging
 pub mod ByHand

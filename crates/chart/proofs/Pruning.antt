@@ -1,17 +1,18 @@
--- Pruning keeps exactly the logs that avoid d, and prunes nothing twice.
+-- Pruning keeps exactly the logs that avoid d, takes a place for each node that it makes, and prunes nothing twice.
 --
 -- By induction on the chart. A deal avoids d exactly if both of its parts do, so pairs and rounds prune part by part.
 -- A side of an alt, or the body of a loop, that does not evade d has no log that avoids d: dropping it loses none,
 -- and a loop is left with no round.
 -- Assumes nothing.
-use Prim.Native.Nat.{ℕ}
-use mathlib.Core.Bool.{Bool, true, false}
+use Prim.Native.Nat.{ℕ, _+_}
+use native.Mathlib.Omega.{arith}
+use mathlib.Core.Bool.{Bool, true, false, cond}
 use mathlib.Core.List.{[], _∷_}
 use mathlib.Core.Logic.{_↔_, _⊎_, inl, inr, ⊎-map, ⊎-elim}
 use mathlib.Core.Path.{_≡_, refl, ap, ap₂}
 use lib.Dec.{T}
 use Rattle.chart.specs.Action.{Action, Log, Every, Avoids, Clear}
-use Rattle.chart.specs.Chart.{Order, Loop, Chart, empty, act, alt, pair, loop}
+use Rattle.chart.specs.Chart.{Order, Loop, Chart, empty, act, alt, pair, loop, size}
 use Rattle.chart.specs.Traces.{Traces, Only, only, Joined, joined}
 use Rattle.chart.specs.Member.{Deal, Round, dealt, headed, Member, Star, none, more}
 use Rattle.chart.specs.Executing.{evades, Made, prunedAlt, prunedLoop, prune, letsPass, passed}
@@ -123,6 +124,48 @@ prune-keeps (pair o l r) d h =
     let (p, q) = both→ (evades l d) (evades r d) h in
     pair-keeps d o (Member l) (Member r) (Member (prune l d .chart)) (Member (prune r d .chart)) (prune-keeps l d p) (prune-keeps r d q)
 prune-keeps (loop k b) d h = loop-keeps d k b (prune b d) (evades b d) (prune-keeps b d) (acts-unless-it-evades b d)
+
+-- ---- its cost
+
+-- The actions and empties that pruning by d keeps as they stand.
+abbrev pub leavesKept : Chart → ℕ → ℕ
+leavesKept empty d = 1
+leavesKept (act a) d = 1
+leavesKept (alt l r) d = cond (evades l d) (leavesKept l d) 0 + cond (evades r d) (leavesKept r d) 0
+leavesKept (pair o l r) d = leavesKept l d + leavesKept r d
+leavesKept (loop k b) d = cond (evades b d) (leavesKept b d) 0
+
+-- m has k nodes that were kept, and takes a place for each of the others
+abbrev Costs : Made → ℕ → Type 0
+Costs m k = m .cost + k ≡ size (m .chart)
+
+alt-costs : (m n : Made) (i j : ℕ) (p q : Bool) → (T p → Costs m i) → (T q → Costs n j) → T p ⊎ T q
+    → Costs (prunedAlt p q m n) (cond p i 0 + cond q j 0)
+alt-costs m n i j true true f g h = let x = f tt in let y = g tt in omega arith
+alt-costs m n i j true false f g h = let x = f tt in omega arith
+alt-costs m n i j false true f g h = let y = g tt in omega arith
+alt-costs m n i j false false f g (inl h) = absurd h
+alt-costs m n i j false false f g (inr h) = absurd h
+
+loop-costs : (k : Loop) (m : Made) (i : ℕ) (p : Bool) → (T p → Costs m i) → Costs (prunedLoop p k m) (cond p i 0)
+loop-costs k m i true f = let x = f tt in omega arith
+loop-costs k m i false f = refl
+
+-- Each node of a pruned chart takes a new place, but for the actions and empties kept as they stand
+-- (01, How a log is executed, Places).
+pub prune-costs : (c : Chart) (d : ℕ) → T (evades c d) → Costs (prune c d) (leavesKept c d)
+unfolding prune
+prune-costs empty d h = refl
+prune-costs (act a) d h = refl
+prune-costs (alt l r) d h =
+    alt-costs (prune l d) (prune r d) (leavesKept l d) (leavesKept r d) (evades l d) (evades r d)
+    (prune-costs l d) (prune-costs r d) (either→ (evades l d) (evades r d) h)
+prune-costs (pair o l r) d h =
+    let (p, q) = both→ (evades l d) (evades r d) h in
+    let x = prune-costs l d p in
+    let y = prune-costs r d q in
+    omega arith
+prune-costs (loop k b) d h = loop-costs k (prune b d) (leavesKept b d) (evades b d) (prune-costs b d)
 
 -- ---- pruned once, pruned for good
 

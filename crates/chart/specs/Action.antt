@@ -30,7 +30,7 @@ abbrev pub Every : (Action → Type 0) → Log → Type 0
 Every P [] = Unit
 Every P (a ∷ s) = P a × Every P s
 
--- Lifeline d never acts in the log (02, Order 3: "logs in which it never acts").
+-- Lifeline d never acts in the log (01, Verdicts and numbers given, 12: the log "avoids the lifeline").
 abbrev pub Avoids : ℕ → Log → Type 0
 Avoids d s = Every (λ a. a .line ≢ d) s
 

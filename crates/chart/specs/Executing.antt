@@ -26,7 +26,7 @@ evades (alt l r) d = evades l d || evades r d
 evades (pair o l r) d = evades l d && evades r d
 evades (loop k b) d = true
 
--- A chart that was made from another, and the places that it takes anew (01, Places).
+-- A chart that was made from another, and the places that it takes anew (01, How a log is executed, Places).
 pub record Made : Type 0 where
   pub chart : Chart
   pub cost : ℕ

@@ -1,6 +1,6 @@
 -- The answer under a lending: which of 10, 9 and the verdicts it is, exactly when, and with which figures.
 --
--- There are four cases, by what a run comes to (Spending.antt): the chart exceeds the room; the lending reaches; the
+-- There are four cases, by what the run of the search comes to (Walking.antt, Spending.antt): the chart exceeds the room; the lending reaches; the
 -- allowance is spent; the next follow-up exceeds the room. One of them always holds, and no two of them: a follow-up
 -- that was made is within the most places.
 -- Assumes nothing.
@@ -17,9 +17,10 @@ use lib.Seq.{take-length}
 use Rattle.chart.specs.Action.{Log}
 use Rattle.chart.specs.Chart.{Chart, size}
 use Rattle.chart.specs.Searching.{Outcome, accepted, refused, searched, runOf, most, stepsOf, placesOf, placesAfter}
-use Rattle.chart.specs.Lending.{Answer, Spending, going, spend, unaccepted, verdict, verdictOf, halted, ended, answer}
+use Rattle.chart.specs.Lending.{Answer, Ending, unaccepted, halted, told, answer}
 use Rattle.chart.specs.Reaching.{Reaches, Verdict, Wants, Exceeds}
-use Rattle.chart.proofs.Spending.{Spent, through, spent, full, spend-law}
+use Rattle.chart.proofs.Walking.{ending, verdict, verdictOf, spent, answer-is-spent}
+use Rattle.chart.proofs.Spending.{Course, whole, out-of-steps, out-of-room, course}
 
 -- ---- numbers
 
@@ -64,25 +65,25 @@ module _ (c : Chart) (t : Log) (allowance room : ℕ) where
     nine : Wants c t room allowance → q ≡ halted 9 allowance (placesAfter c t allowance) → Case q
     ten : (k : ℕ) → Exceeds c t allowance room k → q ≡ halted 10 k (placesAfter c t k) → Case q
 
-  run-case : (end : Spending) → Spent allowance room 0 (size c) (runOf (searched c t)) end
-      → Case (ended (length t) (searched c t) end)
-  run-case end (through a b e) =
+  run-case : (end : Ending) → Course allowance room (ending (searched c t)) 0 (size c) (runOf (searched c t)) end
+      → Case (told (length t) end)
+  run-case end (whole a b e) =
       let none = zero-add (stepsOf c t) in
       reached (rw none at a, b)
-      (ap (ended (length t) (searched c t)) e ∙ ap (λ (n : ℕ). verdict (length t) (searched c t) n (placesOf c t)) none)
-  run-case end (spent k h b a e) =
+      (ap (told (length t)) e ∙ ap (λ (n : ℕ). verdict (length t) (searched c t) n (placesOf c t)) none)
+  run-case end (out-of-steps k h b a e) =
       let all : k ≡ allowance = sym (zero-add k) ∙ a in
       nine (subst (Wants c t room) all (record { within = b; wanted = h }))
-      (ap (ended (length t) (searched c t)) e
+      (ap (told (length t)) e
       ∙ ap (λ (n : ℕ). halted 9 n (placesAfter c t k)) (zero-add k)
       ∙ ap (λ (n : ℕ). halted 9 n (placesAfter c t n)) all)
-  run-case end (full k h b a x e) =
+  run-case end (out-of-room k h b a x e) =
       ten k (record { wants = record { within = b; wanted = h }; unspent = rw (zero-add k) at a; exceeded = x })
-      (ap (ended (length t) (searched c t)) e ∙ ap (λ (n : ℕ). halted 10 n (placesAfter c t k)) (zero-add k))
+      (ap (told (length t)) e ∙ ap (λ (n : ℕ). halted 10 n (placesAfter c t k)) (zero-add k))
 
-  chart-case : (p : Bool) → (T p → room < size c) → (T (not p) → size c ≤ room) → (end : Spending)
-      → (size c ≤ room → Spent allowance room 0 (size c) (runOf (searched c t)) end)
-      → Case (cond p (halted 10 0 0) (ended (length t) (searched c t) end))
+  chart-case : (p : Bool) → (T p → room < size c) → (T (not p) → size c ≤ room) → (end : Ending)
+      → (size c ≤ room → Course allowance room (ending (searched c t)) 0 (size c) (runOf (searched c t)) end)
+      → Case (cond p (halted 10 0 0) (told (length t) end))
   chart-case true f f⁻ end g = too-large (f tt) refl
   chart-case false f f⁻ end g = run-case end (g (f⁻ tt))
 
@@ -91,11 +92,11 @@ module _ (c : Chart) (t : Log) (allowance room : ℕ) where
   given = answer c t allowance room
 
   answer-case : Case given
-  unfolding answer
   answer-case =
-      chart-case (ltb room (size c)) (ltb→lt room (size c)) (nltb→le room (size c))
-      (spend allowance room (going 0 (size c)) (runOf (searched c t)))
-      (spend-law allowance room 0 (size c) (runOf (searched c t)) zero-le)
+      subst Case (sym (answer-is-spent c t allowance room))
+      (chart-case (ltb room (size c)) (ltb→lt room (size c)) (nltb→le room (size c))
+      (spent allowance room (searched c t) 0 (size c))
+      (course allowance room (ending (searched c t)) 0 (size c) (runOf (searched c t)) zero-le))
 
   -- ---- and no two of them
 
