@@ -14,9 +14,9 @@ use Rattle.chart.specs.Chart.{Order, strict, seq, par, Loop, each, head,
 use Rattle.chart.specs.Traces.{Traces, Only, only, Joined, joined}
 use Rattle.chart.specs.Published.{Woven, left-empty, right-empty, first-left, first-right, Conflict, scheduling, power, closure, restricted, Published, weakSequencing}
 use Rattle.chart.specs.Member.{May, Deal, done, left, right, Round, dealt, headed, Star, none, more, Member}
-use Rattle.chart.specs.Executing.{evades, prune}
+use Rattle.chart.specs.Executing.{chartOf, evades, prune}
 use Rattle.chart.proofs.Deals.{deal-all-left, deal-all-right, deal-appended, deal-strict-is-appended}
-use Rattle.chart.proofs.Evading.{evades→, evades←}
+use Rattle.chart.proofs.Evading.{evades-iff-some-log-avoids}
 use Rattle.chart.proofs.Pruning.{prune-keeps}
 
 -- ---- conflicts
@@ -110,6 +110,10 @@ kleene-agrees o T M f = closure-agrees (each o) (Joined (scheduling o)) T M fort
 head-agrees : (T M : Traces) → Same T M → Same (closure (restricted weakSequencing) T) (Star head M)
 head-agrees T M f = closure-agrees head (restricted weakSequencing) T M forth back
   where
+    -- what Definition 2 asks of a log a.t
+    Headed : Traces → Action → Log → Type 0
+    Headed U a t = (s : Log) × T (a ∷ s) × Joined weakSequencing (Only s) U t
+
     begun : (U : Traces) → ((u : Log) → U u → Star head M u) → (a : Action) (s t : Log) → T (a ∷ s)
         → Joined weakSequencing (Only s) U t → Star head M (a ∷ t)
     begun U h a s t m (joined _ u only n x) = more (f (a ∷ s) .0 m) (h u n) (headed (scheduling→ seq s u t x))
@@ -119,11 +123,12 @@ head-agrees T M f = closure-agrees head (restricted weakSequencing) T M forth ba
     forth U h (a ∷ t) r = let (s, m, j) = r .1 a t refl in begun U h a s t m j
 
     back : (U : Traces) (s u t : Log) → M s → U u → Round head s u t → restricted weakSequencing T U t
-    back U _ u _ m n (headed {a = a} {s = s} {t = t} x) =
-        let first : (s′ : Log) × T (a ∷ s′) × Joined weakSequencing (Only s′) U t = (s, f (a ∷ s) .1 m, joined s u only n (scheduling← seq s u t x)) in (
-          joined (a ∷ s) u (f (a ∷ s) .1 m) n (scheduling← seq (a ∷ s) u (a ∷ t) (left x)),
-          λ b r e. subst₂ (λ b r. (s′ : Log) × T (b ∷ s′) × Joined weakSequencing (Only s′) U r) (head-eq-of-cons-eq e) (tail-eq-of-cons-eq e) first,
-        )
+    back U _ u _ m n (headed {a = a} {s = s} {t = t} x) = (
+      joined (a ∷ s) u (f (a ∷ s) .1 m) n (scheduling← seq (a ∷ s) u (a ∷ t) (left x)),
+      λ b r e.
+          subst₂ (Headed U) (head-eq-of-cons-eq e) (tail-eq-of-cons-eq e)
+          (s, f (a ∷ s) .1 m, joined s u only n (scheduling← seq s u t x)),
+    )
 
 -- ---- the theorem
 
@@ -145,11 +150,14 @@ published-iff-member (loop head b) t = head-agrees (Published b) (Member b) (pub
 -- (000, Lemma 5)
 pub evades-iff-some-published-log-avoids : (c : Chart) (d : ℕ) → T (evades c d) ↔ ((t : Log) × Published c t × Avoids d t)
 evades-iff-some-published-log-avoids c d =
-    (λ h. let (t, m, e) = evades→ c d h in (t, published-iff-member c t .1 m, e), λ w. evades← c d (w .0) (published-iff-member c (w .0) .0 (w .1)) (w .2))
+    Iff·trans (evades-iff-some-log-avoids c d) (
+      λ w. (w .0, published-iff-member c (w .0) .1 (w .1), w .2),
+      λ w. (w .0, published-iff-member c (w .0) .0 (w .1), w .2),
+    )
 
 -- (000, Lemma 7)
 pub prune-keeps-published : (c : Chart) (d : ℕ) → T (evades c d) → (t : Log)
-    → Published (prune c d .chart) t ↔ (Published c t × Avoids d t)
+    → Published (chartOf (prune c d)) t ↔ (Published c t × Avoids d t)
 prune-keeps-published c d h t =
-    Iff·trans (published-iff-member (prune c d .chart) t)
+    Iff·trans (published-iff-member (chartOf (prune c d)) t)
     (Iff·trans (prune-keeps c d h t) (Iff·and (Iff·symm (published-iff-member c t)) Iff·rfl))

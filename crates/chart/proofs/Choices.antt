@@ -8,7 +8,7 @@ use lib.Dec.{T}
 use Rattle.chart.specs.Action.{Log}
 use Rattle.chart.specs.Traces.{Traces, Operator, Joined, joined}
 use Rattle.chart.specs.Member.{Member}
-use Rattle.chart.specs.Executing.{Made}
+use Rattle.chart.specs.Executing.{Made, chartOf}
 
 -- ---- one of a list
 
@@ -80,4 +80,4 @@ union-right← P (there w) = joined-implies (λ s m. m) (λ u v. there v) (union
 
 -- The logs of the charts of a list.
 abbrev pub OneOf : List Made → Traces
-OneOf xs = Union (λ x. Member (x .chart)) xs
+OneOf xs = Union (λ x. Member (chartOf x)) xs

@@ -31,10 +31,6 @@ pub deal-left-is-empty : {o : Order} {u t : Log} → Deal o [] u t → u ≡ t
 deal-left-is-empty done = refl
 deal-left-is-empty (right {a = a} m d) = ap (λ (r : Log). a ∷ r) (deal-left-is-empty d)
 
-pub deal-right-is-empty : {o : Order} {s t : Log} → Deal o s [] t → s ≡ t
-deal-right-is-empty done = refl
-deal-right-is-empty (left {a = a} d) = ap (λ (r : Log). a ∷ r) (deal-right-is-empty d)
-
 -- the left part and then the right part is a deal in every order
 pub deal-appended : (o : Order) (s u : Log) → Deal o s u (s ++ u)
 deal-appended o [] u = deal-all-right o u

@@ -17,7 +17,7 @@ use Rattle.chart.specs.Action.{Log, Avoids}
 use Rattle.chart.specs.Chart.{Chart, size}
 use Rattle.chart.specs.Openings.{Begins, Longer, Longest}
 use Rattle.chart.specs.Published.{Published}
-use Rattle.chart.specs.Executing.{evades, prune}
+use Rattle.chart.specs.Executing.{chartOf, evades, prune}
 use Rattle.chart.specs.Searching.{searched, stepsOf, placesOf, placesAfter}
 use Rattle.chart.specs.Lending.{Answer, halted, answer}
 use Rattle.chart.specs.Reaching.{Reaches, Verdict, Wants, Exceeds}
@@ -132,7 +132,7 @@ module _ (c : Chart) (t : Log) (allowance room : ℕ) where
 module _ (c : Chart) (d : ℕ) where
   -- "A cut keeps exactly the logs in which the device never acts,
   pub cut-keeps-exactly-the-logs-without-the-device : T (evades c d) → (t : Log)
-      → Published (prune c d .chart) t ↔ (Published c t × Avoids d t)
+      → Published (chartOf (prune c d)) t ↔ (Published c t × Avoids d t)
   cut-keeps-exactly-the-logs-without-the-device = prune-keeps-published c d
 
   -- and is refused for want of one exactly if there is none."

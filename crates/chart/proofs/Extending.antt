@@ -12,7 +12,7 @@ use lib.Dec.{leb, ltb, lt→ltb}
 use lib.ListN.{length, length-append}
 use Rattle.chart.specs.Action.{Log}
 use Rattle.chart.specs.Chart.{Chart, size}
-use Rattle.chart.specs.Executing.{Made, terminates, follows}
+use Rattle.chart.specs.Executing.{Made, chartOf, costOf, terminates, follows}
 use Rattle.chart.specs.Searching.{Outcome, accepted, refused, step, tries, explore, searched}
 use Rattle.chart.specs.Lending.{Answer, Ending, failed, followUp, unaccepted, halted, told, answer}
 use Rattle.chart.proofs.Tests.{passes}
@@ -36,18 +36,18 @@ tries-extend : (go on : Chart → ℕ → Outcome) (n used : ℕ) (xs : List Mad
 unfolding tries
 tries-extend go on n used [] f h = refl
 tries-extend go on n used (x ∷ xs) f h =
-    let m = used + x .cost in
-    let (p, q) = step-deviates n m (go (x .chart) m) (tries go used xs) h in
-    ap₂ (step m) (f (x .chart) m p) (tries-extend go on n used xs f q)
+    let m = used + costOf x in
+    let (p, q) = step-deviates n m (go (chartOf x) m) (tries go used xs) h in
+    ap₂ (step m) (f (chartOf x) m p) (tries-extend go on n used xs f q)
 
 pub explore-extends : (t u : Log) (c : Chart) (used : ℕ) → Deviates (length t) (explore t c used)
     → explore (t ++ u) c used ≡ explore t c used
 unfolding explore
-explore-extends [] u c used h = absurd (never (terminates c) h)
+explore-extends [] u c used h = absurd (at-end-deviates-never (terminates c) h)
   where
-    never : (p : Bool) → Deviates 0 (cond p (accepted []) (refused 0 [])) → ⊥
-    never true h = h
-    never false h = not-suc-le-zero h
+    at-end-deviates-never : (p : Bool) → Deviates 0 (cond p (accepted []) (refused 0 [])) → ⊥
+    at-end-deviates-never true h = h
+    at-end-deviates-never false h = not-suc-le-zero h
 explore-extends (a ∷ t) u c used h =
     tries-extend (λ x n. explore t x n) (λ x n. explore (t ++ u) x n) (length t) used (follows c a) (explore-extends t u) h
 

@@ -15,7 +15,7 @@ use Rattle.chart.specs.Action.{Action, Log, same, Clear}
 use Rattle.chart.specs.Chart.{Order, strict, seq, par, Loop, each, head, Chart, empty, act, alt, pair, loop}
 use Rattle.chart.specs.Traces.{Only, only, Joined, joined}
 use Rattle.chart.specs.Member.{May, Deal, left, right, Star, Member}
-use Rattle.chart.specs.Executing.{Made, newEmpty, over, overBoth, terminates, letsPass, passed, onRight, begun, afterRound, follows}
+use Rattle.chart.specs.Executing.{Made, kept, newEmpty, newPair, chartOf, terminates, letsPass, passed, onRight, begun, afterRound, follows}
 use Rattle.chart.proofs.Tests.{both→, both←}
 use Rattle.chart.proofs.Deals.{deal-all-right, deal-left-is-empty}
 use Rattle.chart.proofs.Evading.{terminates→, terminates←}
@@ -58,20 +58,20 @@ on-right→ : (o : Order) (l : Chart) (a : Action) (xs : List Made) {t : Log}
 on-right→ strict l a xs (joined s u (m, only) w x) = some-if← (terminates l) xs (terminates← l m) (subst (OneOf xs) (deal-left-is-empty x) w)
 on-right→ seq l a xs {t} (joined s u (m, e) w x) =
     let pass = lets-pass← l (a .line) s m e in
-    some-if← (letsPass l (a .line)) (map (overBoth (pair seq) (passed l (a .line))) xs) pass
-    (some-map← (overBoth (pair seq) (passed l (a .line)))
-    (union-right→ (λ y. Member (y .chart)) (joined s u (passed-keeps l (a .line) pass s .1 (m, e)) w x)))
-on-right→ par l a xs (joined s u (m, e) w x) = some-map← (over (pair par l)) (union-right→ (λ y. Member (y .chart)) (joined s u m w x))
+    some-if← (letsPass l (a .line)) (map (newPair seq (passed l (a .line))) xs) pass
+    (some-map← (newPair seq (passed l (a .line)))
+    (union-right→ (λ y. Member (chartOf y)) (joined s u (passed-keeps l (a .line) pass s .1 (m, e)) w x)))
+on-right→ par l a xs (joined s u (m, e) w x) = some-map← (newPair par (kept l)) (union-right→ (λ y. Member (chartOf y)) (joined s u m w x))
 
 on-right← : (o : Order) (l : Chart) (a : Action) (xs : List Made) {t : Log} → OneOf (onRight o l (a .line) xs) t
     → Joined (Deal o) (λ s. Member l s × May o s a) (OneOf xs) t
 on-right← strict l a xs {t} w = let (h, v) = some-if→ (terminates l) xs w in joined [] t (terminates→ l h, only) v (deal-all-right strict t)
 on-right← seq l a xs w =
-    let (h, v) = some-if→ (letsPass l (a .line)) (map (overBoth (pair seq) (passed l (a .line))) xs) w in
+    let (h, v) = some-if→ (letsPass l (a .line)) (map (newPair seq (passed l (a .line))) xs) w in
     joined-implies (λ s m. passed-keeps l (a .line) h s .0 m) (λ u n. n)
-    (union-right← (λ y. Member (y .chart)) (some-map→ (overBoth (pair seq) (passed l (a .line))) xs v))
+    (union-right← (λ y. Member (chartOf y)) (some-map→ (newPair seq (passed l (a .line))) xs v))
 on-right← par l a xs w =
-    joined-implies (λ s m. (m, tt)) (λ u n. n) (union-right← (λ y. Member (y .chart)) (some-map→ (over (pair par l)) xs w))
+    joined-implies (λ s m. (m, tt)) (λ u n. n) (union-right← (λ y. Member (chartOf y)) (some-map→ (newPair par (kept l)) xs w))
 
 -- ---- a pair
 
@@ -80,15 +80,15 @@ abbrev Follow : Chart → Action → List Made → Type 0
 Follow c a xs = (t : Log) → Member c (a ∷ t) ↔ OneOf xs t
 
 pair-follows : (o : Order) (l r : Chart) (a : Action) (xs ys : List Made) → Follow l a xs → Follow r a ys
-    → Follow (pair o l r) a (map (over (λ x. pair o x r)) xs ++ onRight o l (a .line) ys)
-pair-follows o l r a xs ys f g t = (forth, λ w. back (some-append (map (over (λ x. pair o x r)) xs) (onRight o l (a .line) ys) w))
+    → Follow (pair o l r) a (map (λ x. newPair o x (kept r)) xs ++ onRight o l (a .line) ys)
+pair-follows o l r a xs ys f g t = (forth, λ w. back (some-append (map (λ x. newPair o x (kept r)) xs) (onRight o l (a .line) ys) w))
   where
-    forth : Member (pair o l r) (a ∷ t) → OneOf (map (over (λ x. pair o x r)) xs ++ onRight o l (a .line) ys) t
+    forth : Member (pair o l r) (a ∷ t) → OneOf (map (λ x. newPair o x (kept r)) xs ++ onRight o l (a .line) ys) t
     forth (joined _ u m n (left {s = s} x)) =
         some-left (onRight o l (a .line) ys)
-        (some-map← (over (λ x. pair o x r)) (union-left→ (λ y. Member (y .chart)) (joined s u (f s .0 m) n x)))
+        (some-map← (λ x. newPair o x (kept r)) (union-left→ (λ y. Member (chartOf y)) (joined s u (f s .0 m) n x)))
     forth (joined s _ m n (right {u = u} e x)) =
-        some-right (map (over (λ x. pair o x r)) xs) (on-right→ o l a ys (joined s u (m, e) (g u .0 n) x))
+        some-right (map (λ x. newPair o x (kept r)) xs) (on-right→ o l a ys (joined s u (m, e) (g u .0 n) x))
 
     begin-left : Joined (Deal o) (OneOf xs) (Member r) t → Member (pair o l r) (a ∷ t)
     begin-left (joined s u w n x) = joined (a ∷ s) u (f s .1 w) n (left x)
@@ -96,20 +96,20 @@ pair-follows o l r a xs ys f g t = (forth, λ w. back (some-append (map (over (�
     begin-right : Joined (Deal o) (λ s. Member l s × May o s a) (OneOf ys) t → Member (pair o l r) (a ∷ t)
     begin-right (joined s u (m, e) w x) = joined s (a ∷ u) m (g u .1 w) (right e x)
 
-    back : OneOf (map (over (λ x. pair o x r)) xs) t ⊎ OneOf (onRight o l (a .line) ys) t → Member (pair o l r) (a ∷ t)
-    back (inl w) = begin-left (union-left← (λ y. Member (y .chart)) (some-map→ (over (λ x. pair o x r)) xs w))
+    back : OneOf (map (λ x. newPair o x (kept r)) xs) t ⊎ OneOf (onRight o l (a .line) ys) t → Member (pair o l r) (a ∷ t)
+    back (inl w) = begin-left (union-left← (λ y. Member (chartOf y)) (some-map→ (λ x. newPair o x (kept r)) xs w))
     back (inr w) = begin-right (on-right← o l a ys w)
 
 -- ---- a loop
 
 -- the rest of a round and the loop, as one of the charts that the round's follow-ups give
 begun→ : (k : Loop) (b : Chart) (a : Action) (xs : List Made) → Follow b a xs → (t : Log) → Begun k (Member b) a t
-    → Union (λ y. Member (begun k b y .chart)) xs t
-begun→ k b a xs f t j = union-left→ (λ y. Member (y .chart)) (joined-implies (λ s. f s .0) (λ u n. n) j)
+    → Union (λ y. Member (chartOf (begun k b y))) xs t
+begun→ k b a xs f t j = union-left→ (λ y. Member (chartOf y)) (joined-implies (λ s. f s .0) (λ u n. n) j)
 
 begun← : (k : Loop) (b : Chart) (a : Action) (xs : List Made) → Follow b a xs → (t : Log)
-    → Union (λ y. Member (begun k b y .chart)) xs t → Begun k (Member b) a t
-begun← k b a xs f t w = joined-implies (λ s. f s .1) (λ u n. n) (union-left← (λ y. Member (y .chart)) w)
+    → Union (λ y. Member (chartOf (begun k b y))) xs t → Begun k (Member b) a t
+begun← k b a xs f t w = joined-implies (λ s. f s .1) (λ u n. n) (union-left← (λ y. Member (chartOf y)) w)
 
 -- a loop in which the round that a log begins can be taken as the first
 first-follows : (k : Loop) (b : Chart) (a : Action) (xs : List Made)
@@ -126,18 +126,18 @@ weak-follows : (b : Chart) (a : Action) (xs : List Made) → Follow b a xs
 weak-follows b a xs f t = (λ m. forth (weak-begins→ (Member b) m), λ w. back (some-map→ (afterRound (each seq) b (a .line)) xs w))
   where
     front : (s : Log)
-        → Member (passed (loop (each seq) b) (a .line) .chart) s ↔ (Star (each seq) (Member b) s × Clear (a .line) s)
+        → Member (chartOf (passed (loop (each seq) b) (a .line))) s ↔ (Star (each seq) (Member b) s × Clear (a .line) s)
     front = passed-keeps (loop (each seq) b) (a .line) tt
 
     forth : Fronted (Member b) a t → OneOf (map (afterRound (each seq) b (a .line)) xs) t
     forth j =
         some-map← (afterRound (each seq) b (a .line))
-        (union-right→ (λ y. Member (begun (each seq) b y .chart)) (joined-implies (λ s. front s .1) (begun→ (each seq) b a xs f) j))
+        (union-right→ (λ y. Member (chartOf (begun (each seq) b y))) (joined-implies (λ s. front s .1) (begun→ (each seq) b a xs f) j))
 
-    back : Union (λ x. Member (afterRound (each seq) b (a .line) x .chart)) xs t → Star (each seq) (Member b) (a ∷ t)
+    back : Union (λ x. Member (chartOf (afterRound (each seq) b (a .line) x))) xs t → Star (each seq) (Member b) (a ∷ t)
     back w =
         weak-begins← (Member b)
-        (joined-implies (λ s. front s .0) (begun← (each seq) b a xs f) (union-right← (λ y. Member (begun (each seq) b y .chart)) w))
+        (joined-implies (λ s. front s .0) (begun← (each seq) b a xs f) (union-right← (λ y. Member (chartOf (begun (each seq) b y))) w))
 
 loop-follows : (k : Loop) (b : Chart) (a : Action) (xs : List Made) → Follow b a xs
     → Follow (loop k b) a (map (afterRound k b (a .line)) xs)

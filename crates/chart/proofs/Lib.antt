@@ -3,6 +3,7 @@ pub mod Tests
 pub mod Deals
 pub mod Evading
 pub mod Pruning
+pub mod Keeping
 pub mod Looping
 pub mod Choices
 pub mod Following

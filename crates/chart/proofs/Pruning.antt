@@ -1,21 +1,20 @@
--- Pruning keeps exactly the logs that avoid d, takes a place for each node that it makes, and prunes nothing twice.
+-- Pruning keeps exactly the logs that avoid d, and prunes nothing twice.
 --
 -- By induction on the chart. A deal avoids d exactly if both of its parts do, so pairs and rounds prune part by part.
 -- A side of an alt, or the body of a loop, that does not evade d has no log that avoids d: dropping it loses none,
 -- and a loop is left with no round.
 -- Assumes nothing.
-use Prim.Native.Nat.{ℕ, _+_}
-use native.Mathlib.Omega.{arith}
-use mathlib.Core.Bool.{Bool, true, false, cond}
+use Prim.Native.Nat.{ℕ}
+use mathlib.Core.Bool.{Bool, true, false}
 use mathlib.Core.List.{[], _∷_}
 use mathlib.Core.Logic.{_↔_, _⊎_, inl, inr, ⊎-map, ⊎-elim}
 use mathlib.Core.Path.{_≡_, refl, ap, ap₂}
 use lib.Dec.{T}
 use Rattle.chart.specs.Action.{Action, Log, Every, Avoids, Clear}
-use Rattle.chart.specs.Chart.{Order, Loop, Chart, empty, act, alt, pair, loop, size}
+use Rattle.chart.specs.Chart.{Order, Loop, Chart, empty, act, alt, pair, loop}
 use Rattle.chart.specs.Traces.{Traces, Only, only, Joined, joined}
 use Rattle.chart.specs.Member.{Deal, Round, dealt, headed, Member, Star, none, more}
-use Rattle.chart.specs.Executing.{evades, Made, prunedAlt, prunedLoop, prune, letsPass, passed}
+use Rattle.chart.specs.Executing.{evades, Made, chartOf, prunedAlt, prunedLoop, prune, letsPass, passed}
 use Rattle.chart.proofs.Tests.{both→, either→, passes}
 use Rattle.chart.proofs.Deals.{deal-every→, deal-every←}
 use Rattle.chart.proofs.Evading.{evades→, evades←, on-another→}
@@ -64,9 +63,9 @@ only-keeps d s e t = (λ m. (m, avoids m), λ w. w .0)
     avoids only = e
 
 alt-keeps : (d : ℕ) (l r : Chart) (m n : Made) (p q : Bool)
-    → (T p → Keeps d (Member l) (Member (m .chart))) → (¬ T p → Acts d (Member l))
-    → (T q → Keeps d (Member r) (Member (n .chart))) → (¬ T q → Acts d (Member r))
-    → T p ⊎ T q → Keeps d (Member (alt l r)) (Member (prunedAlt p q m n .chart))
+    → (T p → Keeps d (Member l) (Member (chartOf m))) → (¬ T p → Acts d (Member l))
+    → (T q → Keeps d (Member r) (Member (chartOf n))) → (¬ T q → Acts d (Member r))
+    → T p ⊎ T q → Keeps d (Member (alt l r)) (Member (chartOf (prunedAlt p q m n)))
 alt-keeps d l r m n true true f f⁻ g g⁻ h t = (
   ⊎-elim (λ x. let (y, e) = f tt t .0 x in (inl y, e)) (λ x. let (y, e) = g tt t .0 x in (inr y, e)),
   λ w. ⊎-map (λ y. f tt t .1 (y, w .1)) (λ y. g tt t .1 (y, w .1)) (w .0),
@@ -97,10 +96,10 @@ pair-keeps d o L M L′ M′ f g t = (there, λ w. back (w .0) (w .1))
         let (es, eu) = deal-every→ _ x e in joined s u (f s .1 (m, es)) (g u .1 (n, eu)) x
 
 loop-keeps : (d : ℕ) (k : Loop) (b : Chart) (m : Made) (p : Bool)
-    → (T p → Keeps d (Member b) (Member (m .chart))) → (¬ T p → Acts d (Member b))
-    → Keeps d (Member (loop k b)) (Member (prunedLoop p k m .chart))
+    → (T p → Keeps d (Member b) (Member (chartOf m))) → (¬ T p → Acts d (Member b))
+    → Keeps d (Member (loop k b)) (Member (chartOf (prunedLoop p k m)))
 loop-keeps d k b m true f f⁻ t =
-    (star-keeps→ d (Member b) (Member (m .chart)) (f tt) t, λ w. star-keeps← d (Member b) (Member (m .chart)) (f tt) t (w .0) (w .1))
+    (star-keeps→ d (Member b) (Member (chartOf m)) (f tt) t, λ w. star-keeps← d (Member b) (Member (chartOf m)) (f tt) t (w .0) (w .1))
 loop-keeps d k b m false f f⁻ t = (nothing, λ w. star-keeps-no-round d (Member b) (f⁻ (λ z. z)) t (w .0) (w .1))
   where
     nothing : {t : Log} → Only [] t → Star k (Member b) t × Avoids d t
@@ -112,7 +111,7 @@ acts-unless-it-evades : (c : Chart) (d : ℕ) → ¬ T (evades c d) → Acts d (
 acts-unless-it-evades c d never t m e = never (evades← c d t m e)
 
 -- A chart that evades d keeps, when it is pruned by d, exactly its logs that avoid d (000, Lemma 7).
-pub prune-keeps : (c : Chart) (d : ℕ) → T (evades c d) → Keeps d (Member c) (Member (prune c d .chart))
+pub prune-keeps : (c : Chart) (d : ℕ) → T (evades c d) → Keeps d (Member c) (Member (chartOf (prune c d)))
 unfolding prune
 prune-keeps empty d h = only-keeps d [] tt
 prune-keeps (act a) d h = only-keeps d (a ∷ []) (on-another→ (a .line) d h, tt)
@@ -122,78 +121,36 @@ prune-keeps (alt l r) d h =
     (either→ (evades l d) (evades r d) h)
 prune-keeps (pair o l r) d h =
     let (p, q) = both→ (evades l d) (evades r d) h in
-    pair-keeps d o (Member l) (Member r) (Member (prune l d .chart)) (Member (prune r d .chart)) (prune-keeps l d p) (prune-keeps r d q)
+    pair-keeps d o (Member l) (Member r) (Member (chartOf (prune l d))) (Member (chartOf (prune r d))) (prune-keeps l d p) (prune-keeps r d q)
 prune-keeps (loop k b) d h = loop-keeps d k b (prune b d) (evades b d) (prune-keeps b d) (acts-unless-it-evades b d)
-
--- ---- its cost
-
--- The actions and empties that pruning by d keeps as they stand.
-abbrev pub leavesKept : Chart → ℕ → ℕ
-leavesKept empty d = 1
-leavesKept (act a) d = 1
-leavesKept (alt l r) d = cond (evades l d) (leavesKept l d) 0 + cond (evades r d) (leavesKept r d) 0
-leavesKept (pair o l r) d = leavesKept l d + leavesKept r d
-leavesKept (loop k b) d = cond (evades b d) (leavesKept b d) 0
-
--- m has k nodes that were kept, and takes a place for each of the others
-abbrev Costs : Made → ℕ → Type 0
-Costs m k = m .cost + k ≡ size (m .chart)
-
-alt-costs : (m n : Made) (i j : ℕ) (p q : Bool) → (T p → Costs m i) → (T q → Costs n j) → T p ⊎ T q
-    → Costs (prunedAlt p q m n) (cond p i 0 + cond q j 0)
-alt-costs m n i j true true f g h = let x = f tt in let y = g tt in omega arith
-alt-costs m n i j true false f g h = let x = f tt in omega arith
-alt-costs m n i j false true f g h = let y = g tt in omega arith
-alt-costs m n i j false false f g (inl h) = absurd h
-alt-costs m n i j false false f g (inr h) = absurd h
-
-loop-costs : (k : Loop) (m : Made) (i : ℕ) (p : Bool) → (T p → Costs m i) → Costs (prunedLoop p k m) (cond p i 0)
-loop-costs k m i true f = let x = f tt in omega arith
-loop-costs k m i false f = refl
-
--- Each node of a pruned chart takes a new place, but for the actions and empties kept as they stand
--- (01, How a log is executed, Places).
-pub prune-costs : (c : Chart) (d : ℕ) → T (evades c d) → Costs (prune c d) (leavesKept c d)
-unfolding prune
-prune-costs empty d h = refl
-prune-costs (act a) d h = refl
-prune-costs (alt l r) d h =
-    alt-costs (prune l d) (prune r d) (leavesKept l d) (leavesKept r d) (evades l d) (evades r d)
-    (prune-costs l d) (prune-costs r d) (either→ (evades l d) (evades r d) h)
-prune-costs (pair o l r) d h =
-    let (p, q) = both→ (evades l d) (evades r d) h in
-    let x = prune-costs l d p in
-    let y = prune-costs r d q in
-    omega arith
-prune-costs (loop k b) d h = loop-costs k (prune b d) (leavesKept b d) (evades b d) (prune-costs b d)
 
 -- ---- pruned once, pruned for good
 
 -- What was pruned by d still evades d: the log that avoids d was kept.
-pub pruned-evades : (c : Chart) (d : ℕ) → T (evades c d) → T (evades (prune c d .chart) d)
-pruned-evades c d h = let (t, m, e) = evades→ c d h in evades← (prune c d .chart) d t (prune-keeps c d h t .1 (m, e)) e
+pub pruned-evades : (c : Chart) (d : ℕ) → T (evades c d) → T (evades (chartOf (prune c d)) d)
+pruned-evades c d h = let (t, m, e) = evades→ c d h in evades← (chartOf (prune c d)) d t (prune-keeps c d h t .1 (m, e)) e
 
 -- m is what pruning by d gives, and pruning by d gives it again
 abbrev Settled : ℕ → Made → Type 0
-Settled d m = T (evades (m .chart) d) × (prune (m .chart) d .chart ≡ m .chart)
+Settled d m = T (evades (chartOf m) d) × (chartOf (prune (chartOf m) d) ≡ chartOf m)
 
 alt-settled : (d : ℕ) (m n : Made) (p q : Bool) → (T p → Settled d m) → (T q → Settled d n) → T p ⊎ T q
-    → prune (prunedAlt p q m n .chart) d .chart ≡ prunedAlt p q m n .chart
+    → chartOf (prune (chartOf (prunedAlt p q m n)) d) ≡ chartOf (prunedAlt p q m n)
 unfolding prune
 alt-settled d m n true true f g h =
-    rw (passes (evades (m .chart) d) (f tt .0), passes (evades (n .chart) d) (g tt .0)) (ap₂ alt (f tt .1) (g tt .1))
+    rw (passes (evades (chartOf m) d) (f tt .0), passes (evades (chartOf n) d) (g tt .0)) (ap₂ alt (f tt .1) (g tt .1))
 alt-settled d m n true false f g h = f tt .1
 alt-settled d m n false true f g h = g tt .1
 alt-settled d m n false false f g (inl h) = absurd h
 alt-settled d m n false false f g (inr h) = absurd h
 
 loop-settled : (d : ℕ) (k : Loop) (m : Made) (p : Bool) → (T p → Settled d m)
-    → prune (prunedLoop p k m .chart) d .chart ≡ prunedLoop p k m .chart
+    → chartOf (prune (chartOf (prunedLoop p k m)) d) ≡ chartOf (prunedLoop p k m)
 unfolding prune
-loop-settled d k m true f = rw (passes (evades (m .chart) d) (f tt .0)) (ap (loop k) (f tt .1))
+loop-settled d k m true f = rw (passes (evades (chartOf m) d) (f tt .0)) (ap (loop k) (f tt .1))
 loop-settled d k m false f = refl
 
-pub prune-is-idempotent : (c : Chart) (d : ℕ) → T (evades c d) → prune (prune c d .chart) d .chart ≡ prune c d .chart
+pub prune-is-idempotent : (c : Chart) (d : ℕ) → T (evades c d) → chartOf (prune (chartOf (prune c d)) d) ≡ chartOf (prune c d)
 unfolding prune
 prune-is-idempotent empty d h = refl
 prune-is-idempotent (act a) d h = refl
@@ -214,5 +171,5 @@ lets-pass← = evades←
 
 -- and what it becomes has exactly these logs.
 pub passed-keeps : (c : Chart) (d : ℕ) → T (letsPass c d) → (t : Log)
-    → Member (passed c d .chart) t ↔ (Member c t × Clear d t)
+    → Member (chartOf (passed c d)) t ↔ (Member c t × Clear d t)
 passed-keeps = prune-keeps

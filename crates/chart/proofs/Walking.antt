@@ -13,7 +13,7 @@ use lib.Dec.{leb, ltb}
 use lib.ListN.{length}
 use Rattle.chart.specs.Action.{Log}
 use Rattle.chart.specs.Chart.{Chart, size}
-use Rattle.chart.specs.Executing.{Made, terminates, follows}
+use Rattle.chart.specs.Executing.{Made, chartOf, costOf, terminates, follows}
 use Rattle.chart.specs.Searching.{Outcome, accepted, refused, orElse, step, tries, explore, searched, runOf, stepsOf, placesOf}
 use Rattle.chart.specs.Lending.{Answer, told, Ending, found, failed, stopped, followUp, deepened, orNext, attempts, walk, halted, answer}
 
@@ -68,7 +68,8 @@ module _ (allowance room : ℕ) where
 
   follow-up-then : (f : Ending → Ending) → KeepsStops f → (b e : Bool) (n : ℕ) (on : ℕ → ℕ → Ending) (s p : ℕ)
       → f (followUp b e n on s p) ≡ followUp b e n (λ s p. f (on s p)) s p
-  follow-up-then f h true e n on s p = h 9 s p
+  follow-up-then f h true true n on s p = h 9 s p
+  follow-up-then f h true false n on s p = h 9 s p
   follow-up-then f h false true n on s p = h 10 s p
   follow-up-then f h false false n on s p = refl
 
@@ -116,24 +117,24 @@ module _ (allowance room : ℕ) where
   unfolding attempts tries spend
   attempts-spent go look h used [] s p = refl
   attempts-spent go look h used (x ∷ xs) s p =
-      let n = used + x .cost in
+      let n = used + costOf x in
       next-alike n
-      (λ s p. orNext (go (x .chart) n s p) (attempts allowance room go used xs))
-      (λ s p. orNext (spent (look (x .chart) n) s p) (spent (tries look used xs)))
-      (λ s p. ap₂ orNext (h (x .chart) n s p) (fun-ext (λ s. fun-ext (λ p. attempts-spent go look h used xs s p)))) s p
-      ∙ or-next-spent (look (x .chart) n) (tries look used xs) n s p
+      (λ s p. orNext (go (chartOf x) n s p) (attempts allowance room go used xs))
+      (λ s p. orNext (spent (look (chartOf x) n) s p) (spent (tries look used xs)))
+      (λ s p. ap₂ orNext (h (chartOf x) n s p) (fun-ext (λ s. fun-ext (λ p. attempts-spent go look h used xs s p)))) s p
+      ∙ or-next-spent (look (chartOf x) n) (tries look used xs) n s p
 
   -- ---- the search
 
-  ended-spent : (b : Bool) (s p : ℕ) → cond b (found s p) (failed 0 s p) ≡ spent (cond b (accepted []) (refused 0 [])) s p
+  at-end-spent : (b : Bool) (s p : ℕ) → cond b (found s p) (failed 0 s p) ≡ spent (cond b (accepted []) (refused 0 [])) s p
   unfolding spend
-  ended-spent true s p = refl
-  ended-spent false s p = refl
+  at-end-spent true s p = refl
+  at-end-spent false s p = refl
 
   -- The search under a lending is the run of the search with nothing to stop it, spent.
   pub walk-is-spent : (t : Log) (c : Chart) (used : ℕ) → Alike (walk allowance room t c used) (spent (explore t c used))
   unfolding walk explore
-  walk-is-spent [] c used = ended-spent (terminates c)
+  walk-is-spent [] c used = at-end-spent (terminates c)
   walk-is-spent (a ∷ t) c used =
       attempts-spent (λ x n s p. walk allowance room t x n s p) (λ x n. explore t x n) (walk-is-spent t) used (follows c a)
 

@@ -1,5 +1,5 @@
 -- How a log is executed: terminating, evading, pruning, and the follow-ups of a chart by an action, with what each
--- costs in places. One definition gives a chart and its cost together, so that the two cannot drift apart.
+-- costs in places. The rules say which parts are kept and which nodes are new; chart and cost are both read off that.
 -- Assumes nothing.
 use Prim.Native.Nat.{ℕ, _+_}
 use mathlib.Core.Bool.{Bool, true, false, cond, not, _&&_, _||_}
@@ -26,37 +26,41 @@ evades (alt l r) d = evades l d || evades r d
 evades (pair o l r) d = evades l d && evades r d
 evades (loop k b) d = true
 
--- A chart that was made from another, and the places that it takes anew (01, How a log is executed, Places).
-pub record Made : Type 0 where
-  pub chart : Chart
-  pub cost : ℕ
+-- A chart that the rules make from another, with what is new in it told apart: parts kept as they stand, and new nodes.
+pub data Made : Type 0 where
+  kept : Chart → Made
+  newEmpty : Made
+  newAlt : Made → Made → Made
+  newPair : Order → Made → Made → Made
+  newLoop : Loop → Made → Made
 
--- "Parts kept as they stand take none."
-abbrev pub kept : Chart → Made
-kept c = record { chart = c; cost = 0 }
+-- The chart that was made.
+abbrev pub chartOf : Made → Chart
+chartOf (kept c) = c
+chartOf newEmpty = empty
+chartOf (newAlt m n) = alt (chartOf m) (chartOf n)
+chartOf (newPair o m n) = pair o (chartOf m) (chartOf n)
+chartOf (newLoop k m) = loop k (chartOf m)
 
--- A new empty takes one place: what an action turns into, and what a loop is pruned to.
-abbrev pub newEmpty : Made
-newEmpty = record { chart = empty; cost = 1 }
-
--- One new node over a part that was made.
-abbrev pub over : (Chart → Chart) → Made → Made
-over node m = record { chart = node (m .chart); cost = 1 + m .cost }
-
--- One new node over two parts that were made: a part that stands in two places is rebuilt once for each.
-abbrev pub overBoth : (Chart → Chart → Chart) → Made → Made → Made
-overBoth node m n = record { chart = node (m .chart) (n .chart); cost = 1 + (m .cost + n .cost) }
+-- The places that it takes: "every node named by the execution rules takes a new one; parts kept as they stand take
+-- none; a part that stands in two places is rebuilt once for each" (01, How a log is executed, Places).
+abbrev pub costOf : Made → ℕ
+costOf (kept c) = 0
+costOf newEmpty = 1
+costOf (newAlt m n) = 1 + (costOf m + costOf n)
+costOf (newPair o m n) = 1 + (costOf m + costOf n)
+costOf (newLoop k m) = 1 + costOf m
 
 -- "Alt with one evading side becomes that side pruned; with two, an alt of both pruned."
 -- (whether the left and the right evade d; the left and the right pruned)
 abbrev pub prunedAlt : Bool → Bool → Made → Made → Made
-prunedAlt true true m n = overBoth alt m n
+prunedAlt true true m n = newAlt m n
 prunedAlt true false m n = m
 prunedAlt false r m n = n
 
 -- "A loop whose body evades d becomes the loop of the pruned body; any other loop becomes empty."
 abbrev pub prunedLoop : Bool → Loop → Made → Made
-prunedLoop true k m = over (loop k) m
+prunedLoop true k m = newLoop k m
 prunedLoop false k m = newEmpty
 
 -- Pruning by d, only of what evades d (01, How a log is executed; 000, Definition 10).
@@ -64,7 +68,7 @@ unfoldable pub prune : Chart → ℕ → Made
 prune empty d = kept empty
 prune (act a) d = kept (act a)
 prune (alt l r) d = prunedAlt (evades l d) (evades r d) (prune l d) (prune r d)
-prune (pair o l r) d = overBoth (pair o) (prune l d) (prune r d)
+prune (pair o l r) d = newPair o (prune l d) (prune r d)
 prune (loop k b) d = prunedLoop (evades b d) k (prune b d)
 
 -- Whether the left of a seq lets an action on d pass: if it evades d (01, How a log is executed).
@@ -85,18 +89,18 @@ between head = seq
 -- par: the side is replaced.
 abbrev pub onRight : Order → Chart → ℕ → List Made → List Made
 onRight strict l d xs = cond (terminates l) xs []
-onRight seq l d xs = cond (letsPass l d) (map (overBoth (pair seq) (passed l d)) xs) []
-onRight par l d xs = map (over (pair par l)) xs
+onRight seq l d xs = cond (letsPass l d) (map (newPair seq (passed l d)) xs) []
+onRight par l d xs = map (newPair par (kept l)) xs
 
 -- The round that was begun, before the loop itself.
 abbrev pub begun : Loop → Chart → Made → Made
-begun k b x = over (λ y. pair (between k) y (loop k b)) x
+begun k b x = newPair (between k) x (kept (loop k b))
 
 -- "A loop whose body executes to x: strict loop gives strict(x, loop); head loop seq(x, loop);
 -- parallel loop par(x, loop); weak loop seq(loop pruned by d, seq(x, loop))."
 abbrev pub afterRound : Loop → Chart → ℕ → Made → Made
 afterRound (each strict) b d x = begun (each strict) b x
-afterRound (each seq) b d x = overBoth (pair seq) (passed (loop (each seq) b) d) (begun (each seq) b x)
+afterRound (each seq) b d x = newPair seq (passed (loop (each seq) b) d) (begun (each seq) b x)
 afterRound (each par) b d x = begun (each par) b x
 afterRound head b d x = begun head b x
 
@@ -106,5 +110,5 @@ unfoldable pub follows : Chart → Action → List Made
 follows empty a = []
 follows (act b) a = cond (same a b) (newEmpty ∷ []) []
 follows (alt l r) a = follows l a ++ follows r a
-follows (pair o l r) a = map (over (λ x. pair o x r)) (follows l a) ++ onRight o l (a .line) (follows r a)
+follows (pair o l r) a = map (λ x. newPair o x (kept r)) (follows l a) ++ onRight o l (a .line) (follows r a)
 follows (loop k b) a = map (afterRound k b (a .line)) (follows b a)

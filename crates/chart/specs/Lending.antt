@@ -8,7 +8,7 @@ use lib.Dec.{leb, ltb}
 use lib.ListN.{length}
 use Rattle.chart.specs.Action.{Log}
 use Rattle.chart.specs.Chart.{Chart, size}
-use Rattle.chart.specs.Executing.{Made, terminates, follows}
+use Rattle.chart.specs.Executing.{Made, chartOf, costOf, terminates, follows}
 
 -- What a judgment returns (01, Verdicts and numbers given).
 pub record Answer : Type 0 where
@@ -51,9 +51,9 @@ module _ (allowance room : ℕ) where
   unfoldable pub attempts : (Chart → ℕ → ℕ → ℕ → Ending) → ℕ → List Made → ℕ → ℕ → Ending
   attempts go used [] steps places = failed 0 steps places
   attempts go used (x ∷ xs) steps places =
-      let n = used + x .cost in
+      let n = used + costOf x in
       followUp (leb allowance steps) (ltb room n) n
-      (λ s p. orNext (go (x .chart) n s p) (λ s p. attempts go used xs s p)) steps places
+      (λ s p. orNext (go (chartOf x) n s p) (λ s p. attempts go used xs s p)) steps places
 
   -- "Depth first, occurrences of the log's next action from left to right. At the log's end a terminating chart
   -- accepts at once; otherwise the search goes on with the next choice" (01, How a log is executed).

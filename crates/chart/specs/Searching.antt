@@ -6,7 +6,7 @@ use mathlib.Core.List.{List, [], _∷_, _++_, foldr}
 use lib.ListN.{length, take, getD}
 use Rattle.chart.specs.Action.{Log}
 use Rattle.chart.specs.Chart.{Chart, size}
-use Rattle.chart.specs.Executing.{Made, terminates, follows}
+use Rattle.chart.specs.Executing.{Made, chartOf, costOf, terminates, follows}
 
 -- How a search ends. The run has, for each step in turn, the places in use after it. A refused search also tells its
 -- deepest opening: the most actions executed on one path.
@@ -28,7 +28,7 @@ step n (refused deepest run) rest = orElse deepest (n ∷ run) rest
 -- again" (01, How a log is executed).
 unfoldable pub tries : (Chart → ℕ → Outcome) → ℕ → List Made → Outcome
 tries go used [] = refused 0 []
-tries go used (x ∷ xs) = let rest = tries go used xs in step (used + x .cost) (go (x .chart) (used + x .cost)) rest
+tries go used (x ∷ xs) = let rest = tries go used xs in step (used + costOf x) (go (chartOf x) (used + costOf x)) rest
 
 -- "At the log's end a terminating chart accepts at once; otherwise the search goes on with the next choice"
 -- (01, How a log is executed).
