@@ -1,5 +1,5 @@
--- The thirteen rows of 01's table are answered as it says: antt computes both sides of the whole table. Beside it, the
--- sentence under the table that tells 9 from 10.
+-- The thirteen rows of 01's table are answered as it says: antt computes both sides of the whole table. Beside it,
+-- the sentence under the table that tells 9 from 10.
 -- Assumes nothing.
 use mathlib.Core.List.{[], _∷_, map}
 use mathlib.Core.Path.{_≡_, refl}

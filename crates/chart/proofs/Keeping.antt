@@ -1,8 +1,8 @@
--- What takes no place was there before: each node of what the rules make takes a place or is of a part that is kept as it
--- stands, and each part that is kept is a part of the chart. Pruning keeps nothing but actions and empties.
+-- What takes no place was there before: each node of what the rules make takes a place or is of a part that is kept
+-- as it stands, and each part that is kept is a part of the chart. Pruning keeps nothing but actions and empties.
 --
--- The first goes by induction on what was made, the rest by induction on the chart: a part of a side, or of a body, is a
--- part of the whole.
+-- The first goes by induction on what was made, the rest by induction on the chart: a part of a side, or of a body,
+-- is a part of the whole.
 -- Assumes nothing.
 use Prim.Native.Nat.{ℕ, _+_}
 use native.Mathlib.Omega.{arith}
@@ -145,7 +145,8 @@ on-right-keeps-parts par l r d xs h =
 begun-keeps-parts : (k : Loop) (b : Chart) (x : Made) → KeepsPartsOf b x → KeepsPartsOf (loop k b) (begun k b x)
 begun-keeps-parts k b x h = (of-whole b (loop k b) (λ q. loop-body) x h, itself)
 
-after-round-keeps-parts : (k : Loop) (b : Chart) (d : ℕ) (x : Made) → KeepsPartsOf b x → KeepsPartsOf (loop k b) (afterRound k b d x)
+after-round-keeps-parts : (k : Loop) (b : Chart) (d : ℕ) (x : Made) → KeepsPartsOf b x
+    → KeepsPartsOf (loop k b) (afterRound k b d x)
 after-round-keeps-parts (each strict) b d x h = begun-keeps-parts (each strict) b x h
 after-round-keeps-parts (each seq) b d x h = (prune-keeps-parts (loop (each seq) b) d, begun-keeps-parts (each seq) b x h)
 after-round-keeps-parts (each par) b d x h = begun-keeps-parts (each par) b x h

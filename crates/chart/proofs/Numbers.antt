@@ -1,8 +1,8 @@
 -- The answer under a lending: which of 10, 9 and the verdicts it is, exactly when, and with which figures.
 --
--- There are four cases, by what the run of the search comes to (Walking.antt, Spending.antt): the chart exceeds the room; the lending reaches; the
--- allowance is spent; the next follow-up exceeds the room. One of them always holds, and no two of them: a follow-up
--- that was made is within the most places.
+-- There are four cases, by what the run of the search comes to (Walking.antt, Spending.antt): the chart exceeds the
+-- room; the lending reaches; the allowance is spent; the next follow-up exceeds the room. One of them always holds,
+-- and no two of them: a follow-up that was made is within the most places.
 -- Assumes nothing.
 use Prim.Native.Nat.{ℕ, zero, suc, _≤_, _<_, zero-le}
 use native.Mathlib.Nat.{zero-add, le-refl, le-trans, le-max-left, le-max-right, le-of-suc-le-suc, not-suc-le-zero}
@@ -171,7 +171,8 @@ module _ (c : Chart) (t : Log) (allowance room : ℕ) where
   pub too-large-answer : room < size c → given ≡ halted 10 0 0
   too-large-answer h = same-case answer-case (too-large h refl)
 
-  -- After k steps the allowance is not spent, and the next whole follow-up exceeds the room: 10, with the figures reached.
+  -- After k steps the allowance is not spent, and the next whole follow-up exceeds the room: 10, with the figures
+  -- reached.
   pub exceeded-answer : (k : ℕ) → Exceeds c t allowance room k → given ≡ halted 10 k (placesAfter c t k)
   exceeded-answer k x = same-case answer-case (ten k x refl)
 

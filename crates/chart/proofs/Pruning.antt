@@ -150,7 +150,8 @@ unfolding prune
 loop-settled d k m true f = rw (passes (evades (chartOf m) d) (f tt .0)) (ap (loop k) (f tt .1))
 loop-settled d k m false f = refl
 
-pub prune-is-idempotent : (c : Chart) (d : ℕ) → T (evades c d) → chartOf (prune (chartOf (prune c d)) d) ≡ chartOf (prune c d)
+pub prune-is-idempotent : (c : Chart) (d : ℕ) → T (evades c d)
+    → chartOf (prune (chartOf (prune c d)) d) ≡ chartOf (prune c d)
 unfolding prune
 prune-is-idempotent empty d h = refl
 prune-is-idempotent (act a) d h = refl

@@ -1,6 +1,6 @@
--- What a run comes to: it goes through whole exactly if the allowance reaches its length and the room its most; else it
--- stops at the first follow-up that may not be made, with 9 if the allowance is spent there, and with 10 if only the
--- room is.
+-- What a run comes to: it goes through whole exactly if the allowance reaches its length and the room its most; else
+-- it stops at the first follow-up that may not be made, with 9 if the allowance is spent there, and with 10 if only
+-- the room is.
 --
 -- By induction on the run, from any steps made and places in use so far.
 -- Assumes nothing.

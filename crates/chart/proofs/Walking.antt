@@ -1,9 +1,9 @@
--- The search under a lending makes the follow-ups of the search with nothing to stop it, in the same order, until it is
--- stopped: it is the run of that search, spent against the allowance and the room.
+-- The search under a lending makes the follow-ups of the search with nothing to stop it, in the same order, until it
+-- is stopped: it is the run of that search, spent against the allowance and the room.
 --
--- `spend` goes along a run, asks before each follow-up as the search does, and hands over at the end. Whatever keeps a stop
--- as it is can be done at the end of the run or after it, so a failed choice and the choices after it spend their runs one
--- after the other. The rest is induction on the log and on the choices.
+-- `spend` goes along a run, asks before each follow-up as the search does, and hands over at the end. Whatever keeps
+-- a stop as it is can be done at the end of the run or after it, so a failed choice and the choices after it spend
+-- their runs one after the other. The rest is induction on the log and on the choices.
 -- Assumes nothing.
 use Prim.Native.Nat.{ℕ, suc, _+_}
 use mathlib.Core.Bool.{Bool, true, false, cond}

@@ -26,7 +26,7 @@ evades (alt l r) d = evades l d || evades r d
 evades (pair o l r) d = evades l d && evades r d
 evades (loop k b) d = true
 
--- A chart that the rules make from another, with what is new in it told apart: parts kept as they stand, and new nodes.
+-- What the rules make of a chart, with what is new in it told apart: parts kept as they stand, and new nodes.
 pub data Made : Type 0 where
   kept : Chart → Made
   newEmpty : Made
@@ -42,8 +42,8 @@ chartOf (newAlt m n) = alt (chartOf m) (chartOf n)
 chartOf (newPair o m n) = pair o (chartOf m) (chartOf n)
 chartOf (newLoop k m) = loop k (chartOf m)
 
--- The places that it takes: "every node named by the execution rules takes a new one; parts kept as they stand take
--- none; a part that stands in two places is rebuilt once for each" (01, How a log is executed, Places).
+-- The places that it takes. "Every node named by the execution rules takes a new one. .. Parts kept as they stand take
+-- none. A part that stands in two places is rebuilt once for each." (01, How a log is executed)
 abbrev pub costOf : Made → ℕ
 costOf (kept c) = 0
 costOf newEmpty = 1
@@ -84,9 +84,9 @@ abbrev pub between : Loop → Order
 between (each o) = o
 between head = seq
 
--- What comes of the right side's follow-ups xs by an action on d, in a pair with left side l. Strict: "only if the left
--- terminates, and the right's follow-up alone remains"; seq: "only if the left evades d, and the left is pruned by d";
--- par: the side is replaced.
+-- What comes of the right side's follow-ups xs by an action on d, in a pair with left side l. Strict: "only if the
+-- left terminates, and the right's follow-up alone remains"; seq: "only if the left evades d, and the left is pruned
+-- by d"; par: the side is replaced.
 abbrev pub onRight : Order → Chart → ℕ → List Made → List Made
 onRight strict l d xs = cond (terminates l) xs []
 onRight seq l d xs = cond (letsPass l d) (map (newPair seq (passed l d)) xs) []
