@@ -1,6 +1,6 @@
 -- Charts, with all kinds of 01.
 -- Assumes nothing.
-use Prim.Native.Nat.{ℕ, _+_}
+use Prim.Native.Nat.{ℕ, _+_, max}
 use Rattle.chart.specs.Action.{Action}
 
 -- The three ways in which two parts follow each other: strict, weak sequence, parallel
@@ -29,3 +29,11 @@ size (act a) = 1
 size (alt l r) = 1 + (size l + size r)
 size (pair o l r) = 1 + (size l + size r)
 size (loop k b) = 1 + size b
+
+-- The depth, counting the root as 1 (01, The chart card).
+abbrev pub depth : Chart → ℕ
+depth empty = 1
+depth (act a) = 1
+depth (alt l r) = 1 + max (depth l) (depth r)
+depth (pair o l r) = 1 + max (depth l) (depth r)
+depth (loop k b) = 1 + depth b

@@ -1,0 +1,3 @@
+-- Laws of cards.
+pub mod Tests
+pub mod Trailers

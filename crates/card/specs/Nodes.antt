@@ -1,0 +1,26 @@
+-- Nodes, out of their bytes.
+-- Assumes nothing.
+use Prim.Native.Nat.{ℕ, zero, suc, _+_, _*_, _/_}
+use mathlib.Core.List.{List, [], _∷_, _++_}
+use lib.ListN.{length, getD}
+use Rattle.node.specs.declared.Node.{Node}
+
+-- Node records of 4 bytes (01, The chart card).
+abbrev pub countOf : List ℕ → ℕ
+countOf nodes = length nodes / 4
+
+-- Node i: kind, a, b; and the fourth byte, c (01, The chart card).
+abbrev pub nodeAt : List ℕ → ℕ → Node
+nodeAt nodes i =
+    record { kind = getD nodes (i * 4) 0; a = getD nodes (i * 4 + 1) 0; b = getD nodes (i * 4 + 2) 0 }
+
+abbrev pub spareAt : List ℕ → ℕ → ℕ
+spareAt nodes i = getD nodes (i * 4 + 3) 0
+
+-- The first n nodes, and all of them.
+abbrev pub rowTo : List ℕ → ℕ → List Node
+rowTo nodes zero = []
+rowTo nodes (suc n) = rowTo nodes n ++ (nodeAt nodes n ∷ [])
+
+abbrev pub rowOf : List ℕ → List Node
+rowOf nodes = rowTo nodes (countOf nodes)

@@ -1,0 +1,5 @@
+-- Laws of nodes and places.
+pub mod Packing
+pub mod Ranges
+pub mod Rows
+pub mod Trees

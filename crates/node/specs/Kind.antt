@@ -1,0 +1,42 @@
+-- What each kind of node is.
+-- Assumes nothing.
+use Prim.Native.Nat.{ℕ}
+use mathlib.Core.Bool.{Bool, true, false}
+use mathlib.Core.List.{List, [], _∷_}
+use lib.ListN.{getD}
+use Rattle.chart.specs.Chart.{Chart, Order, Loop}
+use Rattle.chart.specs.Chart.Order.{strict, seq, par}
+use Rattle.chart.specs.Chart.Loop.{each, head}
+use Rattle.chart.specs.Chart.Chart.{alt, pair}
+
+-- The four pairs: two parts in one of the three orders, or a choice of them (01, The chart card, kinds 3 to 6).
+pub data Pair : Type 0 where
+  inOrder : Order → Pair
+  choice : Pair
+
+-- The chart of a pair.
+abbrev pub paired : Pair → Chart → Chart → Chart
+paired (inOrder o) l r = pair o l r
+paired choice l r = alt l r
+
+-- The kinds: empty, an action (which receives or not), a pair, a loop; or no such kind (01, The chart card).
+pub data Kind : Type 0 where
+  nothing : Kind
+  action : Bool → Kind
+  pairs : Pair → Kind
+  loops : Loop → Kind
+  unknown : Kind
+
+-- Kinds 0 to 10: empty; emission, reception; strict, seq, par, alt; strict, head, weak and parallel loop
+-- (01, The chart card).
+abbrev pub allKinds : List Kind
+allKinds =
+    nothing
+    ∷ action false ∷ action true
+    ∷ pairs (inOrder strict) ∷ pairs (inOrder seq) ∷ pairs (inOrder par) ∷ pairs choice
+    ∷ loops (each strict) ∷ loops head ∷ loops (each seq) ∷ loops (each par)
+    ∷ []
+
+-- The kind with that number.
+unfoldable pub kindOf : ℕ → Kind
+kindOf k = getD allKinds k unknown

@@ -1,0 +1,57 @@
+// A node of a chart, and how it stands in one place of the room: 01, "The chart card" and "How a log is executed".
+// What a kind stands for is said in specs/Kind.antt, what a row of nodes stands for in specs/Row.antt.
+ghost use mathlib.Core.Path.{_≡_};
+ghost use Rattle.node.specs.Place.{wordOf, nodeOf};
+
+// The kind, and the two numbers that it gives a meaning: lifeline and message, or the numbers of the children.
+pub struct Node {
+    pub kind: u32,
+    pub a: u32,
+    pub b: u32,
+}
+
+impl Node {
+    // Kinds.
+    pub const EMPTY: u32 = 0;
+    pub const EMISSION: u32 = 1;
+    pub const RECEPTION: u32 = 2;
+    pub const STRICT: u32 = 3;
+    pub const SEQ: u32 = 4;
+    pub const PAR: u32 = 5;
+    pub const ALT: u32 = 6;
+    pub const STRICT_LOOP: u32 = 7;
+    pub const HEAD_LOOP: u32 = 8;
+    pub const WEAK_LOOP: u32 = 9;
+    pub const PAR_LOOP: u32 = 10;
+
+    // Limits.
+    pub const LIFELINES: u32 = 16;
+    pub const MESSAGES: u32 = 64;
+    pub const DEPTH: u32 = 16;
+    pub const NODES: usize = 255;
+    pub const NODE_BYTES: usize = 4;
+    pub const CARD_BYTES: usize = 4096;
+    pub const PLACES: usize = 16384;
+
+    // A place is one number: the kind in 4 bits above a and b in 14 bits each. What is too wide loses its high bits.
+    const KIND_MASK: u32 = 0xF;
+    const NUMBER_MASK: u32 = 0x3FFF;
+
+    pub fn pack(self) -> u32
+        ensures { λ r. ⌜ r ≡ wordOf self ⌝ }
+    {
+        let kind = self.kind & Node::KIND_MASK;
+        let upper = (kind << 14) | (self.a & Node::NUMBER_MASK);
+        (upper << 14) | (self.b & Node::NUMBER_MASK)
+    }
+
+    pub fn unpack(word: u32) -> Node
+        ensures { λ r. ⌜ r ≡ nodeOf word ⌝ }
+    {
+        Node {
+            kind: word >> 28,
+            a: (word >> 14) & Node::NUMBER_MASK,
+            b: word & Node::NUMBER_MASK,
+        }
+    }
+}
