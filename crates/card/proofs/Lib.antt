@@ -1,3 +1,5 @@
 -- Laws of cards.
 pub mod Tests
 pub mod Trailers
+pub mod Lowest
+pub mod NodeFaults

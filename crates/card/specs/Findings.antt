@@ -31,17 +31,17 @@ backInRule card = eqb (backOf card % 4) 0 && (within 4 (backOf card) 1020 && leb
 abbrev pub countsInRange : List ℕ → Bool
 countsInRange card = within 1 (lifelinesOf card) 16 && within 1 (messagesOf card) 64
 
--- 4: node i, with its byte c, has a known kind, zero in its unused fields, a declared lifeline and message, and children lower than
--- itself. This is the one definition of what is wrong with a node.
-abbrev pub inOrderAs : Kind → ℕ → ℕ → ℕ → Node → ℕ → Bool
-inOrderAs nothing lifelines messages i n c = eqb (n .a) 0 && (eqb (n .b) 0 && eqb c 0)
-inOrderAs (action r) lifelines messages i n c = eqb c 0 && (ltb (n .a) lifelines && ltb (n .b) messages)
-inOrderAs (pairs p) lifelines messages i n c = eqb c 0 && (ltb (n .a) i && ltb (n .b) i)
-inOrderAs (loops k) lifelines messages i n c = eqb (n .b) 0 && (eqb c 0 && ltb (n .a) i)
-inOrderAs unknown lifelines messages i n c = false
+-- 4: node i has a known kind, zero in its unused fields, a declared lifeline and message, and children lower than itself; c is
+-- never used. This is the one definition of what is wrong with a node.
+abbrev pub inOrderAs : Kind → ℕ → ℕ → ℕ → Node → Bool
+inOrderAs nothing lifelines messages i n = eqb (n .a) 0 && eqb (n .b) 0
+inOrderAs (action r) lifelines messages i n = ltb (n .a) lifelines && ltb (n .b) messages
+inOrderAs (pairs p) lifelines messages i n = ltb (n .a) i && ltb (n .b) i
+inOrderAs (loops k) lifelines messages i n = eqb (n .b) 0 && ltb (n .a) i
+inOrderAs unknown lifelines messages i n = false
 
 abbrev pub inOrder : ℕ → ℕ → ℕ → Node → ℕ → Bool
-inOrder lifelines messages i n c = inOrderAs (kindOf (n .kind)) lifelines messages i n c
+inOrder lifelines messages i n c = eqb c 0 && inOrderAs (kindOf (n .kind)) lifelines messages i n
 
 -- The number of node i's fault, 0 if it has none.
 abbrev pub faultOf : ℕ → ℕ → List ℕ → ℕ → ℕ

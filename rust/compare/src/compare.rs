@@ -22,7 +22,7 @@ struct Tally {
 }
 
 /// Compares at least so many cards and prints what was compared; the error says
-/// on which card the programs differ, or why the comparison proves too little.
+/// on which card the programs differ, or why the comparison shows too little.
 pub fn run(cards: usize, seed: u64) -> Result<(), String> {
     let mut random = Random::new(seed);
     let mut tally = Tally {
@@ -60,7 +60,8 @@ fn compare_family(
     }
 }
 
-/// Asks both programs on one card; gives the number they agree on.
+/// Asks both programs on one card; gives the number they agree on. It must also
+/// be the one that the card was made for: the two might be wrong alike.
 fn compare_card(card: &Card) -> Result<usize, String> {
     let bytes = &card.bytes;
     let plain = Answer {
@@ -80,11 +81,14 @@ fn compare_card(card: &Card) -> Result<usize, String> {
         Some(number) => format!("number {number}"),
         None => "nothing said".to_string(),
     };
-    Err(format!(
-        "a difference\ncard ({} bytes): {}\nplain:     {plain:?}\nairpistil: {airpistil:?}\nexpected:  {expected}",
-        bytes.len(),
-        hex(bytes),
-    ))
+    let lines = [
+        "a difference".to_string(),
+        format!("card ({} bytes): {}", bytes.len(), hex(bytes)),
+        format!("plain:     {plain:?}"),
+        format!("airpistil: {airpistil:?}"),
+        format!("expected:  {expected}"),
+    ];
+    Err(lines.join("\n"))
 }
 
 impl Tally {

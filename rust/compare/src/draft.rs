@@ -9,7 +9,6 @@ pub const MARK: [u8; 2] = [0x57, 0x4C];
 /// A node's fields: kind, a, b, c.
 pub type Node = [u8; 4];
 
-#[derive(Clone)]
 pub struct Draft {
     pub note: Vec<u8>,
     pub nodes: Vec<Node>,

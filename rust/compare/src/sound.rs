@@ -83,8 +83,8 @@ fn most_nodes(depth: usize) -> usize {
 }
 
 /// The least depth of a tree of so many nodes.
-pub fn least_depth(size: usize) -> usize {
-    (1..)
+fn least_depth(size: usize) -> usize {
+    (1..LARGEST_DEPTH)
         .find(|&depth| most_nodes(depth) >= size)
         .unwrap_or(LARGEST_DEPTH)
 }

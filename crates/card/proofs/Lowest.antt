@@ -1,0 +1,36 @@
+-- The lowest node with a fault, and how a loop finds it: it is fine so far, and goes on or has found it.
+-- All by induction on how many nodes were looked at.
+-- Assumes nothing.
+use Prim.Native.Nat.{ℕ, zero, suc, _+_, _<_, _≤_}
+use mathlib.Core.Bool.{cond}
+use mathlib.Core.Path.{_≡_, refl, sym, _∙_}
+use native.Mathlib.Decide.{ℕ-discrete}
+use native.Mathlib.Numerals.{add-one}
+use native.Mathlib.Omega.{arith}
+use borrow.Author.Tests.{eq-eqb, ne-eqb}
+use Rattle.card.specs.declared.Finding.{Finding}
+use Rattle.card.specs.declared.Finding.the-variants.{Fine, Refused}
+use Rattle.card.specs.Findings.{finding, orElse, lowest}
+
+pub finding-none : (number place : ℕ) → number ≡ 0 → finding number place ≡ Fine
+finding-none number place e = rw (eq-eqb number 0 e)
+
+pub finding-some : (number place : ℕ) → (number ≡ 0 → ⊥) → finding number place ≡ Refused number place
+finding-some number place h = rw (ne-eqb number 0 h)
+
+module _ (fault : ℕ → ℕ) where
+  -- Fine so far, and this one too.
+  pub fine-so-far : (i : ℕ) → lowest fault i ≡ Fine → fault i ≡ 0 → lowest fault (i + 1) ≡ Fine
+  fine-so-far i h e = rw (add-one i, h, finding-none (fault i) i e)
+
+  -- Fine so far, and this one is not.
+  pub found-here :
+      (i n : ℕ) → i < n → lowest fault i ≡ Fine → (fault i ≡ 0 → ⊥) → lowest fault n ≡ Refused (fault i) i
+  found-here i zero l h e = absurd (omega arith)
+  found-here i (suc n) l h e = last (ℕ-discrete i n) (λ k. found-here i n k h e)
+    where
+      last :
+          Dec (i ≡ n) → (i < n → lowest fault n ≡ Refused (fault i) i)
+          → orElse (lowest fault n) (finding (fault n) n) ≡ Refused (fault i) i
+      last (yes same) before = rw (← same, h, finding-some (fault i) i e)
+      last (no other) before = rw (before (omega arith))
