@@ -3,3 +3,4 @@ pub mod Tests
 pub mod Trailers
 pub mod Lowest
 pub mod NodeFaults
+pub mod Counts

@@ -6,3 +6,4 @@ pub mod Findings
 pub mod Checking
 pub mod Note
 pub mod Faultless
+pub mod Counting

@@ -3,12 +3,16 @@
 -- Assumes nothing.
 use Prim.Native.Nat.{ℕ, zero, suc, _+_, _-_, _≤_, _<_}
 use mathlib.Core.Bool.{Bool, true, false}
+use mathlib.Core.List.{List, [], _∷_}
 use mathlib.Core.Path.{_≡_, refl}
+use native.Mathlib.Decide.{decLe}
 use native.Mathlib.Omega.{arith}
 use lib.ListN.{List·getD-eq-default}
 use Rattle.chart.specs.Chart.{Loop}
 use Rattle.chart.specs.Chart.Order.{strict, seq, par}
 use Rattle.chart.specs.Chart.Loop.{each, head}
+use Rattle.node.specs.declared.Node.{Node}
+use Rattle.node.specs.Row.{children}
 use Rattle.node.specs.Kind.{Kind, kindOf, allKinds, Pair}
 use Rattle.node.specs.Kind.Pair.{inOrder, choice}
 use Rattle.node.specs.Kind.Kind.{nothing, action, pairs, loops, unknown}
@@ -61,3 +65,21 @@ seven-to-ten-are-loops k low high =
 pub above-ten-is-unknown : (k : ℕ) → 11 ≤ k → kindOf k ≡ unknown
 unfolding kindOf
 above-ten-is-unknown k h = List·getD-eq-default allKinds unknown h
+
+-- The children of a node, by the ranges.
+module _ (n : Node) where
+  pub children-of-a-leaf : n .kind ≤ 2 → children n ≡ []
+  children-of-a-leaf high = by (decLe 1 (n .kind))
+    where
+      by : Dec (1 ≤ n .kind) → children n ≡ []
+      by (yes low) = let (r, e) = one-and-two-are-actions (n .kind) low high in rw e
+      by (no none) = rw (zero-is-nothing (n .kind) (omega arith))
+
+  pub children-of-a-pair : 3 ≤ n .kind → n .kind ≤ 6 → children n ≡ n .a ∷ n .b ∷ []
+  children-of-a-pair low high = let (p, e) = three-to-six-are-pairs (n .kind) low high in rw e
+
+  pub children-of-a-loop : 7 ≤ n .kind → n .kind ≤ 10 → children n ≡ n .a ∷ []
+  children-of-a-loop low high = let (l, e) = seven-to-ten-are-loops (n .kind) low high in rw e
+
+  pub children-of-the-unknown : 11 ≤ n .kind → children n ≡ []
+  children-of-the-unknown low = rw (above-ten-is-unknown (n .kind) low)

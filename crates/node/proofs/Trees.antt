@@ -108,7 +108,7 @@ module _ (m : ℕ → ℕ) where
        sumTo-eq (λ j. uses (x ∷ row) j * m j) (λ j. times j (children x) * m j + uses row j * m j) n
        (λ j l. add-mul (times j (children x)) (uses row j) (m j)))
 
-below-more : (i n : ℕ) (ks : List ℕ) → i ≤ n → Below i ks → Below n ks
+pub below-more : (i n : ℕ) (ks : List ℕ) → i ≤ n → Below i ks → Below n ks
 below-more i n [] h b = tt
 below-more i n (k ∷ ks) h (b, bs) = (omega arith, below-more i n ks h bs)
 
