@@ -4,3 +4,5 @@ pub mod Trailers
 pub mod Lowest
 pub mod NodeFaults
 pub mod Counts
+pub mod Depths
+pub mod Sets

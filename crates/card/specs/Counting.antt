@@ -14,6 +14,6 @@ oneMoreEach counts [] = counts
 oneMoreEach counts (k ∷ ks) = oneMoreEach (oneMore counts k) ks
 
 -- The numbers below n that pass a test, as a set of n bits.
-abbrev pub bitsOf : (ℕ → Bool) → ℕ → ℕ
+unfoldable pub bitsOf : (ℕ → Bool) → ℕ → ℕ
 bitsOf p zero = 0
 bitsOf p (suc n) = cond (p n) 1 0 * 2 ^ n + bitsOf p n

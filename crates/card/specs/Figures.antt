@@ -30,7 +30,7 @@ acts [] d = false
 acts (n ∷ row) d = actsAs (kindOf (n .kind)) n d || acts row d
 
 -- How many numbers below n pass a test.
-abbrev pub tally : (ℕ → Bool) → ℕ → ℕ
+unfoldable pub tally : (ℕ → Bool) → ℕ → ℕ
 tally p zero = 0
 tally p (suc n) = cond (p n) 1 0 + tally p n
 
