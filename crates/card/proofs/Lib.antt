@@ -6,3 +6,5 @@ pub mod NodeFaults
 pub mod Counts
 pub mod Depths
 pub mod Sets
+pub mod Relied
+pub mod Answers

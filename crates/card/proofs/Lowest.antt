@@ -18,6 +18,19 @@ finding-none number place e = rw (eq-eqb number 0 e)
 pub finding-some : (number place : ℕ) → (number ≡ 0 → ⊥) → finding number place ≡ Refused number place
 finding-some number place h = rw (ne-eqb number 0 h)
 
+-- No number, no refusal.
+finding-fine→ : (number place : ℕ) → finding number place ≡ Fine → number ≡ 0
+finding-fine→ number place h = by (ℕ-discrete number 0)
+  where
+    by : Dec (number ≡ 0) → number ≡ 0
+    by (yes e) = e
+    by (no d) = let never : Refused number place ≡ Fine = sym (finding-some number place d) ∙ h in cc
+
+-- Both of two findings are fine.
+or-fine→ : (f g : Finding) → orElse f g ≡ Fine → (f ≡ Fine) × (g ≡ Fine)
+or-fine→ Fine g h = (refl, h)
+or-fine→ (Refused number place) g h = (h, cc)
+
 module _ (fault : ℕ → ℕ) where
   -- Fine so far, and this one too.
   pub fine-so-far : (i : ℕ) → lowest fault i ≡ Fine → fault i ≡ 0 → lowest fault (i + 1) ≡ Fine
@@ -34,3 +47,14 @@ module _ (fault : ℕ → ℕ) where
           → orElse (lowest fault n) (finding (fault n) n) ≡ Refused (fault i) i
       last (yes same) before = rw (← same, h, finding-some (fault i) i e)
       last (no other) before = rw (before (omega arith))
+
+  -- Fine to the end: no node has a fault.
+  pub fine→none : (n : ℕ) → lowest fault n ≡ Fine → (i : ℕ) → i < n → fault i ≡ 0
+  fine→none zero h i l = absurd (omega arith)
+  fine→none (suc n) h i l =
+      let (before, here) = or-fine→ (lowest fault n) (finding (fault n) n) h in
+      last (ℕ-discrete i n) here (λ k. fine→none n before i k)
+    where
+      last : Dec (i ≡ n) → finding (fault n) n ≡ Fine → (i < n → fault i ≡ 0) → fault i ≡ 0
+      last (yes same) here before = rw same (finding-fine→ (fault n) n here)
+      last (no other) here before = before (omega arith)

@@ -1,0 +1,49 @@
+-- The answer to a card, by the first rule that is broken.
+-- Each is the list of findings, looked through as far as that rule.
+-- Assumes nothing.
+use Prim.Native.Nat.{ℕ, _≤_, _<_}
+use mathlib.Core.Bool.{true, false}
+use mathlib.Core.List.{List}
+use mathlib.Core.Path.{_≡_}
+use borrow.Author.Tests.{le-leb, lt-leb}
+use Rattle.card.specs.declared.Finding.the-variants.{Fine, Refused}
+use Rattle.card.specs.Parts.{lifelinesOf, messagesOf, nodesOf}
+use Rattle.card.specs.Figures.{depthOf}
+use Rattle.card.specs.Findings.{framed, backInRule, countsInRange, faulty, misused}
+use Rattle.card.specs.Checking.{checking, refusal, soundness}
+
+module _ (card : List ℕ) where
+  pub answer-one : framed card ≡ false → checking card ≡ refusal 1 0
+  unfolding checking
+  answer-one h = rw h
+
+  pub answer-two : framed card ≡ true → backInRule card ≡ false → checking card ≡ refusal 2 0
+  unfolding checking
+  answer-two h₁ h₂ = rw (h₁, h₂)
+
+  pub answer-three :
+      framed card ≡ true → backInRule card ≡ true → countsInRange card ≡ false → checking card ≡ refusal 3 0
+  unfolding checking
+  answer-three h₁ h₂ h₃ = rw (h₁, h₂, h₃)
+
+  module _ (h₁ : framed card ≡ true) (h₂ : backInRule card ≡ true) (h₃ : countsInRange card ≡ true) where
+    pub answer-four :
+        (number place : ℕ) → faulty (lifelinesOf card) (messagesOf card) (nodesOf card) ≡ Refused number place
+        → checking card ≡ refusal number place
+    unfolding checking
+    answer-four number place h₄ = rw (h₁, h₂, h₃, h₄)
+
+    module _ (h₄ : faulty (lifelinesOf card) (messagesOf card) (nodesOf card) ≡ Fine) where
+      pub answer-five :
+          (number place : ℕ) → misused (nodesOf card) ≡ Refused number place → checking card ≡ refusal number place
+      unfolding checking
+      answer-five number place h₅ = rw (h₁, h₂, h₃, h₄, h₅)
+
+      pub answer-six : misused (nodesOf card) ≡ Fine → 16 < depthOf (nodesOf card) → checking card ≡ refusal 6 0
+      unfolding checking
+      answer-six h₅ h₆ = rw (h₁, h₂, h₃, h₄, h₅, lt-leb (depthOf (nodesOf card)) 16 h₆)
+
+      pub answer-sound :
+          misused (nodesOf card) ≡ Fine → depthOf (nodesOf card) ≤ 16 → checking card ≡ soundness (nodesOf card)
+      unfolding checking
+      answer-sound h₅ h₆ = rw (h₁, h₂, h₃, h₄, h₅, le-leb (depthOf (nodesOf card)) 16 h₆)
