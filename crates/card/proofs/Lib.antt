@@ -8,3 +8,5 @@ pub mod Depths
 pub mod Sets
 pub mod Relied
 pub mod Answers
+pub mod Decided
+pub mod Orderly

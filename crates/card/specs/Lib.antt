@@ -5,5 +5,6 @@ pub mod Figures
 pub mod Findings
 pub mod Checking
 pub mod Note
+pub mod Table
 pub mod Faultless
 pub mod Counting

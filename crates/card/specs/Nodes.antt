@@ -3,7 +3,10 @@
 use Prim.Native.Nat.{ℕ, zero, suc, _+_, _*_, _/_}
 use mathlib.Core.List.{List, [], _∷_, _++_}
 use lib.ListN.{length, getD}
+use Rattle.chart.specs.Chart.{Chart}
 use Rattle.node.specs.declared.Node.{Node}
+use Rattle.node.specs.Row.{chart}
+use Rattle.card.specs.Parts.{nodesOf}
 
 -- Node records of 4 bytes (01, The chart card).
 abbrev pub countOf : List ℕ → ℕ
@@ -24,3 +27,10 @@ rowTo nodes (suc n) = rowTo nodes n ++ (nodeAt nodes n ∷ [])
 
 abbrev pub rowOf : List ℕ → List Node
 rowOf nodes = rowTo nodes (countOf nodes)
+
+-- The row of a card's nodes, and the chart that a card is.
+abbrev pub cardRow : List ℕ → List Node
+cardRow card = rowOf (nodesOf card)
+
+abbrev pub cardChart : List ℕ → Chart
+cardChart card = chart (cardRow card)

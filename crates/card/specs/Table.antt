@@ -1,0 +1,112 @@
+-- Numbers 1 to 6 of 01's table a second time: as conditions on the bytes, in the table's words and order, with nothing shared with
+-- `Checking` but the charts of a row. proofs/Telling.antt shows that both say the same.
+-- Assumes nothing.
+use Prim.Native.Nat.{ℕ, _+_, _-_, _*_, _/_, _%_, _<_, _≤_}
+use mathlib.Core.List.{List}
+use mathlib.Core.Logic.{_≢_, _⊎_}
+use mathlib.Core.Path.{_≡_}
+use lib.ListN.{length, getD}
+use Rattle.chart.specs.Chart.{depth}
+use Rattle.node.specs.Row.{uses}
+use Rattle.card.specs.Nodes.{cardRow, cardChart}
+
+-- Byte k of the card.
+abbrev pub byte : List ℕ → ℕ → ℕ
+byte card k = getD card k 0
+
+-- 1: card under 6 or over 4,096 bytes, or last two bytes wrong.
+abbrev pub NoCard : List ℕ → Type 0
+NoCard card =
+    length card < 6 ⊎ 4096 < length card ⊎ byte card (length card - 2) ≢ 0x57 ⊎ byte card (length card - 1) ≢ 0x4C
+
+-- The trailer: back distance, low byte first; number of lifelines; number of messages.
+abbrev pub back : List ℕ → ℕ
+back card = byte card (length card - 6) + 256 * byte card (length card - 5)
+
+abbrev pub lifelines : List ℕ → ℕ
+lifelines card = byte card (length card - 4)
+
+abbrev pub messages : List ℕ → ℕ
+messages card = byte card (length card - 3)
+
+-- 2: back distance out of rule (a multiple of 4 from 4 to 1,020), or larger than the bytes before the trailer.
+abbrev pub BackOut : List ℕ → Type 0
+BackOut card = back card % 4 ≢ 0 ⊎ back card < 4 ⊎ 1020 < back card ⊎ length card - 6 < back card
+
+-- 3: lifelines (1 to 16) or messages (1 to 64) out of range.
+abbrev pub CountsOut : List ℕ → Type 0
+CountsOut card = lifelines card < 1 ⊎ 16 < lifelines card ⊎ messages card < 1 ⊎ 64 < messages card
+
+-- How many nodes there are; field k of node i: kind, a, b, c.
+abbrev pub count : List ℕ → ℕ
+count card = back card / 4
+
+abbrev pub field : List ℕ → ℕ → ℕ → ℕ
+field card i k = byte card (length card - 6 - back card + (i * 4 + k))
+
+-- 4: a node has an unknown kind,
+abbrev pub UnknownKind : ℕ → Type 0
+UnknownKind kind = 10 < kind
+
+-- a non-zero unused field (c; a and b of kind 0; b of kinds 7 to 10),
+abbrev pub UnusedSet : ℕ → ℕ → ℕ → ℕ → Type 0
+UnusedSet kind a b c = c ≢ 0 ⊎ (kind ≡ 0 × (a ≢ 0 ⊎ b ≢ 0)) ⊎ (7 ≤ kind × b ≢ 0)
+
+-- a lifeline or message not declared (kinds 1 and 2),
+abbrev pub Undeclared : ℕ → ℕ → ℕ → ℕ → ℕ → Type 0
+Undeclared lifelines messages kind a b = 1 ≤ kind × kind ≤ 2 × (lifelines ≤ a ⊎ messages ≤ b)
+
+-- or a child not lower than itself (a of kinds 3 to 10, b of kinds 3 to 6).
+abbrev pub NotLower : ℕ → ℕ → ℕ → ℕ → Type 0
+NotLower i kind a b = (3 ≤ kind × i ≤ a) ⊎ (3 ≤ kind × kind ≤ 6 × i ≤ b)
+
+abbrev pub Fault : ℕ → ℕ → ℕ → ℕ → ℕ → ℕ → ℕ → Type 0
+Fault lifelines messages i kind a b c =
+    UnknownKind kind ⊎ UnusedSet kind a b c ⊎ Undeclared lifelines messages kind a b ⊎ NotLower i kind a b
+
+abbrev pub FaultAt : List ℕ → ℕ → Type 0
+FaultAt card i =
+    Fault (lifelines card) (messages card) i (field card i 0) (field card i 1) (field card i 2) (field card i 3)
+
+-- 5: a node other than the root is a child zero times or more than once.
+abbrev pub MisuseAt : List ℕ → ℕ → Type 0
+MisuseAt card j = uses (cardRow card) j ≡ 0 ⊎ 1 < uses (cardRow card) j
+
+-- 6: depth over 16.
+abbrev pub TooDeep : List ℕ → Type 0
+TooDeep card = 16 < depth (cardChart card)
+
+-- The lowest such node.
+pub record Lowest (At : ℕ → Type 0) (n p : ℕ) : Type 0 where
+  pub inside : p < n
+  pub here : At p
+  pub none-lower : (j : ℕ) → j < p → ¬ At j
+
+-- None of the conditions up to 3, 4, 5 and 6 holds.
+pub record Trailed (card : List ℕ) : Type 0 where
+  pub framed : ¬ NoCard card
+  pub back : ¬ BackOut card
+  pub counts : ¬ CountsOut card
+
+pub record Ordered (card : List ℕ) : Type 0 where
+  pub trailed : Trailed card
+  pub nodes : (i : ℕ) → i < count card → ¬ FaultAt card i
+
+pub record Tree (card : List ℕ) : Type 0 where
+  pub ordered : Ordered card
+  pub once : (j : ℕ) → j < count card - 1 → ¬ MisuseAt card j
+
+-- A sound card: nothing refuses it.
+pub record Sound (card : List ℕ) : Type 0 where
+  pub tree : Tree card
+  pub shallow : ¬ TooDeep card
+
+-- The number and place that a card is given, each under its exact condition.
+pub data Told (card : List ℕ) : ℕ → ℕ → Type 0 where
+  one : NoCard card → Told card 1 0
+  two : ¬ NoCard card → BackOut card → Told card 2 0
+  three : ¬ NoCard card → ¬ BackOut card → CountsOut card → Told card 3 0
+  four : {i : ℕ} → Trailed card → Lowest (FaultAt card) (count card) i → Told card 4 i
+  five : {j : ℕ} → Ordered card → Lowest (MisuseAt card) (count card - 1) j → Told card 5 j
+  six : Tree card → TooDeep card → Told card 6 0
+  sound : Sound card → Told card 0 0
