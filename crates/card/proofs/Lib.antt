@@ -10,3 +10,5 @@ pub mod Relied
 pub mod Answers
 pub mod Decided
 pub mod Orderly
+pub mod LowestAt
+pub mod Telling
