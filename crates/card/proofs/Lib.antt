@@ -11,4 +11,7 @@ pub mod Answers
 pub mod Decided
 pub mod Orderly
 pub mod LowestAt
+pub mod Deciding
 pub mod Telling
+pub mod Charted
+pub mod Promises

@@ -6,5 +6,6 @@ pub mod Findings
 pub mod Checking
 pub mod Note
 pub mod Table
+pub mod Meaning
 pub mod Faultless
 pub mod Counting

@@ -1,0 +1,98 @@
+-- What is promised of cards, for whoever reads nothing else: each sentence of 01 on cards, as a theorem that only cites others.
+-- `check` answers `checking` of the bytes and `note` hands back `noteOf` of them: that is their contract (src/lib.rt). What is said
+-- here of the two definitions is therefore said of the code.
+-- Assumes nothing.
+use Prim.Native.Nat.{ℕ, _-_, _≤_, _<_}
+use mathlib.Core.Bool.{Bool, true, false}
+use mathlib.Core.List.{List, []}
+use mathlib.Core.Logic.{_≢_, _↔_}
+use mathlib.Core.Path.{_≡_, refl, sym, _∙_, ap}
+use native.Mathlib.Omega.{arith}
+use lib.Dec.{ltb}
+use lib.ListN.{length, take}
+use borrow.Author.Tests.{eq-eqb, ne-eqb}
+use Rattle.chart.specs.Chart.{size, depth}
+use Rattle.card.specs.declared.Checked.{Checked}
+use Rattle.card.specs.declared.Finding.{Finding}
+use Rattle.card.specs.declared.Finding.the-variants.{Fine, Refused}
+use Rattle.card.specs.Parts.{firstAt, lifelinesOf, messagesOf, nodesOf}
+use Rattle.card.specs.Nodes.{cardChart}
+use Rattle.card.specs.Figures.{tally}
+use Rattle.card.specs.Checking.{checking, findings, first, answered, refusal, soundness}
+use Rattle.card.specs.Note.{noteOf}
+use Rattle.card.specs.Table.{Told, Sound, lifelines, messages}
+use Rattle.card.specs.Table.Told.{one, two, three, four, five, six, sound}
+use Rattle.card.specs.Meaning.{Declared, deeds}
+use Rattle.card.proofs.Deciding.{at-least-six, same-lifelines, same-messages}
+use Rattle.card.proofs.Telling.{told→answer, answer→told, sound→answer, sound→faultless, sound→once, sound→orderly}
+use Rattle.card.proofs.Charted.{as-many-nodes, the-same-act, chart-declared}
+
+told-zero : (card : List ℕ) {number place : ℕ} → Told card number place → number ≡ 0 → Sound card
+told-zero card (one h) e = absurd (omega arith)
+told-zero card (two f h) e = absurd (omega arith)
+told-zero card (three f b h) e = absurd (omega arith)
+told-zero card (four t l) e = absurd (omega arith)
+told-zero card (five o l) e = absurd (omega arith)
+told-zero card (six t h) e = absurd (omega arith)
+told-zero card (sound s) e = s
+
+module _ (card : List ℕ) where
+  -- "No. | Given when | Place", 1 to 6, and 0 for a sound card: exactly as 01's table tells.
+  pub given-exactly-as-the-table-tells :
+      (number place : ℕ) → ((checking card .number ≡ number) × (checking card .place ≡ place)) ↔ Told card number place
+  given-exactly-as-the-table-tells number place = (λ (en, ep). rw (en, ep) at (answer→told card), told→answer card)
+
+  -- 0 exactly for sound cards.
+  pub zero-exactly-for-sound-cards : (checking card .number ≡ 0) ↔ Sound card
+  zero-exactly-for-sound-cards = (told-zero card (answer→told card), λ s. told→answer card (sound s) .0)
+
+  -- "A card check that refuses returns number, place and zero figures."
+  pub a-refusal-has-no-figures :
+      checking card .number ≢ 0 → checking card ≡ refusal (checking card .number) (checking card .place)
+  unfolding checking
+  a-refusal-has-no-figures h = by (first (findings card)) h
+    where
+      by :
+          (f : Finding) → answered f (soundness (nodesOf card)) .number ≢ 0
+          → answered f (soundness (nodesOf card))
+          ≡ refusal (answered f (soundness (nodesOf card)) .number) (answered f (soundness (nodesOf card)) .place)
+      by Fine h = absurd (h refl)
+      by (Refused number place) h = refl
+
+  -- "Checking a sound card gives number 0, place 0, its number of nodes, its depth, and the number of different lifelines that act
+  -- in it": of the chart that the card is.
+  module _ (s : Sound card) where
+    pub sound-gives-place-zero : checking card .place ≡ 0
+    sound-gives-place-zero = told→answer card (sound s) .1
+
+    pub sound-gives-the-number-of-nodes : checking card .nodes ≡ size (cardChart card)
+    sound-gives-the-number-of-nodes =
+        ap (λ a. a .nodes) (sound→answer card s) ∙ sym (as-many-nodes (nodesOf card) (sound→faultless card s) (sound→once card s))
+
+    pub sound-gives-the-depth : checking card .depth ≡ depth (cardChart card)
+    sound-gives-the-depth = ap (λ a. a .depth) (sound→answer card s)
+
+    pub sound-gives-the-lifelines-that-act :
+        checking card .lifelines ≡ tally (λ d. ltb 0 (deeds d (cardChart card))) 16
+    sound-gives-the-lifelines-that-act =
+        ap (λ a. a .lifelines) (sound→answer card s)
+        ∙ the-same-act (nodesOf card) (sound→faultless card s) (sound→once card s)
+
+    -- "Depth, counting the root as 1, is at most 16."
+    pub sound-is-at-most-sixteen-deep : depth (cardChart card) ≤ 16
+    sound-is-at-most-sixteen-deep = let shallow = s .shallow in omega arith
+
+    -- "a is the lifeline, b the message", "1 to 16", "1 to 64": all declared.
+    pub sound-is-declared : Declared (lifelines card) (messages card) (cardChart card)
+    sound-is-declared =
+        let long = at-least-six card (s .tree .ordered .trailed .framed) in
+        rw (← same-lifelines card long, ← same-messages card long)
+        (chart-declared (lifelinesOf card) (messagesOf card) (nodesOf card) (sound→orderly card s))
+
+    -- "The note is handed back as that part of the caller's own bytes":
+    pub sound-has-its-note : noteOf card ≡ take (firstAt card) card
+    sound-has-its-note = rw (eq-eqb (checking card .number) 0 (told→answer card (sound s) .0))
+
+  -- "a refused card gives an empty part."
+  pub a-refused-card-has-no-note : checking card .number ≢ 0 → noteOf card ≡ []
+  a-refused-card-has-no-note h = rw (ne-eqb (checking card .number) 0 h)
