@@ -4,7 +4,6 @@ ghost use mathlib.Core.Path.{_≡_};
 ghost use lib.ListN.{length};
 ghost use Rattle.card.specs.Checking.{checking};
 ghost use Rattle.card.specs.Note.{noteOf};
-
 use card::Checked;
 
 // The answer to a card: number, place, nodes, depth, lifelines.
@@ -15,7 +14,8 @@ pub extern "C" fn airpistil_check(card: &[u8]) -> Checked
     card::check(card)
 }
 
-// How many of the card's leading bytes are its note. (A part of the caller's bytes can't be handed back to C; its length can.)
+// How many of the card's leading bytes are its note. (A part of the caller's bytes can't be handed back to C; its
+// length can.)
 #[no_mangle]
 pub extern "C" fn airpistil_note(card: &[u8]) -> usize
     ensures { λ r. ⌜ r ≡ length (noteOf (now (card .entry))) ⌝ }

@@ -6,13 +6,23 @@ use mathlib.Core.Bool.{true, false}
 use mathlib.Core.List.{List}
 use mathlib.Core.Path.{_≡_}
 use borrow.Author.Tests.{le-leb, lt-leb}
+use Rattle.card.specs.declared.Finding.{Finding}
 use Rattle.card.specs.declared.Finding.the-variants.{Fine, Refused}
 use Rattle.card.specs.Parts.{lifelinesOf, messagesOf, nodesOf}
 use Rattle.card.specs.Figures.{depthOf}
 use Rattle.card.specs.Findings.{framed, backInRule, countsInRange, faulty, misused}
 use Rattle.card.specs.Checking.{checking, refusal, soundness}
 
+-- The rules of the whole card are passed.
+pub record Passed (card : List ℕ) : Type 0 where
+  pub one : framed card ≡ true
+  pub two : backInRule card ≡ true
+  pub three : countsInRange card ≡ true
+
 module _ (card : List ℕ) where
+  abbrev pub faults : Finding
+  faults = faulty (lifelinesOf card) (messagesOf card) (nodesOf card)
+
   pub answer-one : framed card ≡ false → checking card ≡ refusal 1 0
   unfolding checking
   answer-one h = rw h
@@ -26,24 +36,24 @@ module _ (card : List ℕ) where
   unfolding checking
   answer-three h₁ h₂ h₃ = rw (h₁, h₂, h₃)
 
-  module _ (h₁ : framed card ≡ true) (h₂ : backInRule card ≡ true) (h₃ : countsInRange card ≡ true) where
-    pub answer-four :
-        (number place : ℕ) → faulty (lifelinesOf card) (messagesOf card) (nodesOf card) ≡ Refused number place
+  module _ (p : Passed card) where
+    pub answer-four : (number place : ℕ) → faults ≡ Refused number place → checking card ≡ refusal number place
+    unfolding checking
+    answer-four number place h₄ = rw (p .one, p .two, p .three, h₄)
+
+    pub answer-five :
+        (number place : ℕ) → faults ≡ Fine → misused (nodesOf card) ≡ Refused number place
         → checking card ≡ refusal number place
     unfolding checking
-    answer-four number place h₄ = rw (h₁, h₂, h₃, h₄)
+    answer-five number place h₄ h₅ = rw (p .one, p .two, p .three, h₄, h₅)
 
-    module _ (h₄ : faulty (lifelinesOf card) (messagesOf card) (nodesOf card) ≡ Fine) where
-      pub answer-five :
-          (number place : ℕ) → misused (nodesOf card) ≡ Refused number place → checking card ≡ refusal number place
-      unfolding checking
-      answer-five number place h₅ = rw (h₁, h₂, h₃, h₄, h₅)
+    pub answer-six :
+        faults ≡ Fine → misused (nodesOf card) ≡ Fine → 16 < depthOf (nodesOf card) → checking card ≡ refusal 6 0
+    unfolding checking
+    answer-six h₄ h₅ h₆ = rw (p .one, p .two, p .three, h₄, h₅, lt-leb (depthOf (nodesOf card)) 16 h₆)
 
-      pub answer-six : misused (nodesOf card) ≡ Fine → 16 < depthOf (nodesOf card) → checking card ≡ refusal 6 0
-      unfolding checking
-      answer-six h₅ h₆ = rw (h₁, h₂, h₃, h₄, h₅, lt-leb (depthOf (nodesOf card)) 16 h₆)
-
-      pub answer-sound :
-          misused (nodesOf card) ≡ Fine → depthOf (nodesOf card) ≤ 16 → checking card ≡ soundness (nodesOf card)
-      unfolding checking
-      answer-sound h₅ h₆ = rw (h₁, h₂, h₃, h₄, h₅, le-leb (depthOf (nodesOf card)) 16 h₆)
+    pub answer-sound :
+        faults ≡ Fine → misused (nodesOf card) ≡ Fine → depthOf (nodesOf card) ≤ 16
+        → checking card ≡ soundness (nodesOf card)
+    unfolding checking
+    answer-sound h₄ h₅ h₆ = rw (p .one, p .two, p .three, h₄, h₅, le-leb (depthOf (nodesOf card)) 16 h₆)

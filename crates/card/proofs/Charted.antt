@@ -1,7 +1,8 @@
--- The chart of a sound card: as many nodes as the card, every lifeline and message declared, and the lifelines that act in it are
--- those of the card's nodes. The first and the last are the law of trees at two weights; the second is by induction on the row.
+-- The chart of a sound card: as many nodes as the card, every lifeline and message declared, and the lifelines that
+-- act in it are those of the card's nodes. The first and the last are the law of trees at two weights; the second is
+-- by induction on the row.
 -- Assumes nothing.
-use Prim.Native.Nat.{ℕ, zero, suc, _+_, _-_, _<_, _≤_}
+use Prim.Native.Nat.{ℕ, zero, suc, _+_, _-_, _<_}
 use mathlib.Core.Bool.{Bool, true, false, cond, _||_}
 use mathlib.Core.List.{List, [], _∷_, _++_}
 use mathlib.Core.Path.{_≡_, refl, sym, _∙_, ap}
@@ -18,7 +19,7 @@ use Rattle.node.specs.Kind.Pair.{inOrder, choice}
 use Rattle.node.specs.Kind.Kind.{nothing, action, pairs, loops, unknown}
 use Rattle.node.specs.Row.{stands, standsAs, charts, chart, children, childrenAs, uses, Below}
 use Rattle.node.proofs.Rows.{charts-more, length-charts}
-use Rattle.node.proofs.Trees.{LowerFrom, Weighs, total, sumOf, below-more, tree-weighs-its-nodes, tree-has-its-nodes}
+use Rattle.node.proofs.Trees.{LowerFrom, total, sumOf, below-more, tree-weighs-its-nodes, tree-has-its-nodes}
 use Rattle.card.specs.Nodes.{countOf, nodeAt, rowTo, rowOf}
 use Rattle.card.specs.Figures.{actsAs, acts, tally}
 use Rattle.card.specs.Findings.{inOrderAs}
@@ -29,17 +30,22 @@ use Rattle.card.proofs.Counts.{length-row}
 
 -- Children lower than their parents, along the row.
 lower-more :
-    (i : ℕ) (row : List Node) (n : Node) → LowerFrom i row → Below (i + length row) (children n) → LowerFrom i (row ++ (n ∷ []))
+    (i : ℕ) (row : List Node) (n : Node) → LowerFrom i row → Below (i + length row) (children n)
+    → LowerFrom i (row ++ (n ∷ []))
 lower-more i [] n l b = (below-more (i + 0) i (children n) (omega arith) b, tt)
-lower-more i (m ∷ row) n (b, l) low =
-    (b, lower-more (suc i) row n l (below-more (i + suc (length row)) (suc i + length row) (children n) (omega arith) low))
+lower-more i (m ∷ row) n (b, l) low = (
+  b,
+  lower-more (suc i) row n l (below-more (i + suc (length row)) (suc i + length row) (children n)
+      (omega arith) low),
+)
 
 lower-row :
     (nodes : List ℕ) (n : ℕ) → ((i : ℕ) → i < n → Below i (children (nodeAt nodes i))) → LowerFrom 0 (rowTo nodes n)
 lower-row nodes zero low = tt
 lower-row nodes (suc n) low =
     lower-more 0 (rowTo nodes n) (nodeAt nodes n) (lower-row nodes n (λ i h. low i (omega arith)))
-    (below-more n (0 + length (rowTo nodes n)) (children (nodeAt nodes n)) (omega (arith, length-row nodes n)) (low n (omega arith)))
+    (below-more n (0 + length (rowTo nodes n)) (children (nodeAt nodes n)) (omega (arith, length-row nodes n))
+    (low n (omega arith)))
 
 one-more-has :
     (P : Chart → Type 0) (cs : List Chart) (c : Chart) → P empty → ((j : ℕ) → P (getD cs j empty)) → P c
@@ -52,7 +58,8 @@ one-more-has P (x ∷ cs) c none all here (suc j) = one-more-has P cs c none (λ
 -- What holds of a node's chart if it holds of the charts before it, holds of every chart of the row.
 every-chart :
     (P : Chart → Type 0) (nodes : List ℕ) (n : ℕ) → P empty
-    → ((i : ℕ) → i < n → (before : List Chart) → ((j : ℕ) → P (getD before j empty)) → P (stands before (nodeAt nodes i)))
+    → ((i : ℕ) → i < n → (before : List Chart) → ((j : ℕ) → P (getD before j empty))
+    → P (stands before (nodeAt nodes i)))
     → (j : ℕ) → P (getD (charts (rowTo nodes n)) j empty)
 every-chart P nodes zero none step j =
     rw (List·getD-eq-default (charts []) empty {n = j} (omega (arith, length-charts []))) none
@@ -66,7 +73,8 @@ every-chart P nodes (suc n) none step j =
 module _ (lifelines messages : ℕ) where
   declared-as :
       (k : Kind) (i : ℕ) (n : Node) (before : List Chart) → inOrderAs k lifelines messages i n ≡ true
-      → ((j : ℕ) → Declared lifelines messages (getD before j empty)) → Declared lifelines messages (standsAs k before n)
+      → ((j : ℕ) → Declared lifelines messages (getD before j empty))
+      → Declared lifelines messages (standsAs k before n)
   declared-as nothing i n before h all = tt
   declared-as (action r) i n before h all =
       let (l, m) = both (ltb (n .a) lifelines) (ltb (n .b) messages) h in
@@ -78,7 +86,8 @@ module _ (lifelines messages : ℕ) where
 
   pub chart-declared :
       (nodes : List ℕ)
-      → ((i : ℕ) → i < countOf nodes → inOrderAs (kindOf (nodeAt nodes i .kind)) lifelines messages i (nodeAt nodes i) ≡ true)
+      → ((i : ℕ) → i < countOf nodes → inOrderAs (kindOf (nodeAt nodes i .kind)) lifelines messages i (nodeAt nodes i)
+      ≡ true)
       → Declared lifelines messages (chart (rowOf nodes))
   chart-declared nodes order =
       every-chart (Declared lifelines messages) nodes (countOf nodes) tt
@@ -92,7 +101,8 @@ module _ (d : ℕ) where
 
   deeds-as :
       (k : Kind) (before : List Chart) (n : Node)
-      → deeds d (standsAs k before n) ≡ cond (actsAs k n d) 1 0 + sumOf (λ j. deeds d (getD before j empty)) (childrenAs k n)
+      → deeds d (standsAs k before n) ≡ cond (actsAs k n d) 1 0 + sumOf (λ j. deeds d (getD before j empty))
+      (childrenAs k n)
   deeds-as nothing before n = refl
   deeds-as (action r) before n = omega arith
   deeds-as (pairs (inOrder o)) before n = omega arith
@@ -115,7 +125,8 @@ tally-same p q h zero = refl
 tally-same p q h (suc n) = rw (h n, tally-same p q h n)
 
 -- The nodes of a card that are one tree.
-module _ (nodes : List ℕ) (faultless : Faultless nodes) (once : (j : ℕ) → j < countOf nodes - 1 → uses (rowOf nodes) j ≡ 1) where
+module _ (nodes : List ℕ) (faultless : Faultless nodes)
+    (once : (j : ℕ) → j < countOf nodes - 1 → uses (rowOf nodes) j ≡ 1) where
   abbrev row : List Node
   row = rowOf nodes
 
@@ -132,8 +143,9 @@ module _ (nodes : List ℕ) (faultless : Faultless nodes) (once : (j : ℕ) → 
   the-same-act =
       tally-same (acts row) (λ d. ltb 0 (deeds d (chart row)))
       (λ d.
-       acts-by-deeds d row
-       ∙ ap (ltb 0)
-       (sym
-       (tree-weighs-its-nodes (deeds d) (own d) (λ before n. deeds-as d (kindOf (n .kind)) before n) row (countOf nodes - 1) long lower once)))
+      acts-by-deeds d row
+      ∙ ap (ltb 0)
+      (sym
+      (tree-weighs-its-nodes (deeds d) (own d) (λ before n. deeds-as d (kindOf (n .kind)) before n) row
+      (countOf nodes - 1) long lower once)))
       16

@@ -8,7 +8,7 @@ use native.Mathlib.Decide.{ℕ-discrete, decLt}
 use native.Mathlib.Numerals.{add-one}
 use native.Mathlib.Omega.{arith}
 use lib.Dec.{eqb}
-use lib.ListN.{length, getD, set, replicate, length-set, length-append, getD-replicate, List·getD-eq-default}
+use lib.ListN.{length, getD, replicate, length-set, length-append, getD-replicate, List·getD-eq-default}
 use lib.Seq.{getD-set-same, getD-set-other, set-out}
 use borrow.Author.Tests.{eq-eqb, ne-eqb}
 use Rattle.node.specs.declared.Node.{Node}
@@ -100,10 +100,12 @@ pub one-more-counted :
     → n ≡ nodeAt nodes i → next ≡ oneMoreEach counts (children n) → Below 255 (children n)
     → Counted nodes i counts → Counted nodes (i + 1) next
 one-more-counted nodes i counts next n en enext low (long, at) =
-    let room : Below (length counts) (children n) = rw long low in
-    (rw enext (length-one-more-each counts (children n) ∙ long), λ j h.
-     rw (add-one i, enext, ← en)
-     (omega (arith, one-more-each-at counts (children n) j room, at j h, uses-more (rowTo nodes i) n j)))
+    let room : Below (length counts) (children n) = rw long low in (
+      rw enext (length-one-more-each counts (children n) ∙ long),
+      λ j h.
+          rw (add-one i, enext, ← en)
+          (omega (arith, one-more-each-at counts (children n) j room, at j h, uses-more (rowTo nodes i) n j)),
+    )
 
 -- Node j is misused, or not, by what was counted.
 pub misused-as-counted : (row : List Node) (j count : ℕ) → count ≡ uses row j → (count ≡ 1 → ⊥) → misuseOf row j ≡ 5

@@ -1,5 +1,5 @@
--- A test decides a condition: it passes exactly if the condition does not hold. Tests that are joined decide conditions that are
--- joined.
+-- A test decides a condition: it passes exactly if the condition does not hold. Tests that are joined decide
+-- conditions that are joined.
 -- Assumes nothing.
 use Prim.Native.Nat.{ℕ, _<_, _≤_}
 use mathlib.Core.Bool.{Bool, true, false, _&&_, true≢false}
@@ -52,6 +52,7 @@ regroup {A = A} {B = B} {C = C} d = in-words there back d
     there (inl (inl a)) = inl a
     there (inl (inr b)) = inr (inl b)
     there (inr c) = inr (inr c)
+
     back : A ⊎ B ⊎ C → (A ⊎ B) ⊎ C
     back (inl a) = inl (inl a)
     back (inr (inl b)) = inl (inr b)

@@ -1,5 +1,5 @@
--- Each test of `Findings` decides its condition of `Table`: the trailer's bytes and the nodes' fields are the same bytes of the card,
--- and joined tests decide joined conditions.
+-- Each test of `Findings` decides its condition of `Table`: the trailer's bytes and the nodes' fields are the same
+-- bytes of the card, and joined tests decide joined conditions.
 -- Assumes nothing.
 use Prim.Native.Nat.{ℕ, zero, suc, _+_, _-_, _*_, _%_, _<_, _≤_}
 use mathlib.Core.List.{List}
@@ -14,14 +14,16 @@ use Rattle.node.specs.Row.{uses}
 use Rattle.card.specs.Parts.{trailerByte, trailerAt, firstAt, backOf, lifelinesOf, messagesOf, nodesOf}
 use Rattle.card.specs.Nodes.{countOf, nodeAt, spareAt, cardRow}
 use Rattle.card.specs.Findings.{framed, backInRule, countsInRange, inOrder}
-use Rattle.card.specs.Table.{byte, NoCard, BackOut, CountsOut, FaultAt, MisuseAt, back, lifelines, messages, count, field}
+use Rattle.card.specs.Table.{byte, NoCard, BackOut, CountsOut, FaultAt, MisuseAt}
+use Rattle.card.specs.Table.{back, lifelines, messages, count, field}
 use Rattle.card.proofs.Trailers.{trailer-there}
 use Rattle.card.proofs.Relied.{InRule, length-nodes}
 use Rattle.card.proofs.Decided.{Decided, by-leb, by-eqb, by-both, regroup, in-words}
 use Rattle.card.proofs.Orderly.{order-decided}
 
 -- Byte k of the trailer is byte m from the end.
-from-the-end : (card : List ℕ) (k m : ℕ) → 6 ≤ length card → k + m ≡ 6 → trailerByte card k ≡ byte card (length card - m)
+from-the-end : (card : List ℕ) (k m : ℕ) → 6 ≤ length card → k + m ≡ 6
+    → trailerByte card k ≡ byte card (length card - m)
 from-the-end card k m long e =
     let at : length card - 6 + k ≡ length card - m = omega arith in
     trailer-there card k long ∙ ap (byte card) at
@@ -40,9 +42,9 @@ framed-decided card =
     let size = length card in
     regroup
     (by-both (by-both (by-leb 6 size) (λ _. by-leb size 4096)) (λ fits.
-     let long = at-least-six card fits in
-     by-both (same-number (trailerByte card 4) (byte card (size - 2)) 0x57 (from-the-end card 4 2 long refl)) (λ _.
-     same-number (trailerByte card 5) (byte card (size - 1)) 0x4C (from-the-end card 5 1 long refl))))
+    let long = at-least-six card fits in
+    by-both (same-number (trailerByte card 4) (byte card (size - 2)) 0x57 (from-the-end card 4 2 long refl)) (λ _.
+    same-number (trailerByte card 5) (byte card (size - 1)) 0x4C (from-the-end card 5 1 long refl))))
 
 module _ (card : List ℕ) (long : 6 ≤ length card) where
   same-back : backOf card ≡ back card
@@ -59,17 +61,17 @@ module _ (card : List ℕ) (long : 6 ≤ length card) where
   back-decided =
       rw (← same-back)
       (by-both (by-eqb (backOf card % 4) 0) (λ _.
-       regroup
-       (by-both (by-both (by-leb 4 (backOf card)) (λ _. by-leb (backOf card) 1020)) (λ _.
-        by-leb (backOf card) (trailerAt card)))))
+      regroup
+      (by-both (by-both (by-leb 4 (backOf card)) (λ _. by-leb (backOf card) 1020)) (λ _.
+      by-leb (backOf card) (trailerAt card)))))
 
   -- 3
   pub counts-decided : Decided (countsInRange card) (CountsOut card)
   counts-decided =
       rw (← same-lifelines, ← same-messages)
       (regroup
-       (by-both (by-both (by-leb 1 (lifelinesOf card)) (λ _. by-leb (lifelinesOf card) 16)) (λ _.
-        by-both (by-leb 1 (messagesOf card)) (λ _. by-leb (messagesOf card) 64))))
+      (by-both (by-both (by-leb 1 (lifelinesOf card)) (λ _. by-leb (lifelinesOf card) 16)) (λ _.
+      by-both (by-leb 1 (messagesOf card)) (λ _. by-leb (messagesOf card) 64))))
 
   module _ (rule : InRule card) where
     pub same-count : countOf (nodesOf card) ≡ count card
@@ -86,22 +88,31 @@ module _ (card : List ℕ) (long : 6 ≤ length card) where
     -- 4
     pub fault-decided :
         (i : ℕ) → i < count card
-        → Decided (inOrder (lifelinesOf card) (messagesOf card) i (nodeAt (nodesOf card) i) (spareAt (nodesOf card) i)) (FaultAt card i)
+        → Decided (inOrder (lifelinesOf card) (messagesOf card) i (nodeAt (nodesOf card) i)
+        (spareAt (nodesOf card) i)) (FaultAt card i)
     fault-decided i h =
         let nodes = nodesOf card in
-        let kind : nodeAt nodes i .kind ≡ field card i 0 = ap (λ k. getD nodes k 0) (sym (add-zero (i * 4))) ∙ same-field i 0 h (omega arith) in
-        rw
-        (← same-lifelines, ← same-messages, ← kind, ← same-field i 1 h (omega arith), ← same-field i 2 h (omega arith),
-         ← same-field i 3 h (omega arith))
+        let kind : nodeAt nodes i .kind ≡ field card i 0 = ap (λ k. getD nodes k 0) (sym (add-zero (i * 4)))
+        ∙ same-field i 0 h (omega arith) in
+        rw (
+          ← same-lifelines,
+          ← same-messages,
+          ← kind,
+          ← same-field i 1 h (omega arith),
+          ← same-field i 2 h (omega arith),
+          ← same-field i 3 h (omega arith),
+        )
         (order-decided (lifelinesOf card) (messagesOf card) i (nodeAt nodes i) (spareAt nodes i))
 
 -- 5
 pub misuse-decided : (card : List ℕ) (j : ℕ) → Decided (eqb (uses (cardRow card) j) 1) (MisuseAt card j)
-misuse-decided card j = in-words (other (uses (cardRow card) j)) (not-one (uses (cardRow card) j)) (by-eqb (uses (cardRow card) j) 1)
+misuse-decided card j = in-words (other (uses (cardRow card) j)) (not-one (uses (cardRow card) j))
+    (by-eqb (uses (cardRow card) j) 1)
   where
     other : (n : ℕ) → n ≢ 1 → n ≡ 0 ⊎ 1 < n
     other zero h = inl refl
     other (suc n) h = inr (omega arith)
+
     not-one : (n : ℕ) → n ≡ 0 ⊎ 1 < n → n ≢ 1
     not-one n (inl h) e = omega arith
     not-one n (inr h) e = omega arith

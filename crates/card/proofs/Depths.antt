@@ -1,16 +1,15 @@
 -- The depths of the nodes, in one pass: each node's from those of its children.
 -- Assumes nothing.
 use Prim.Native.Nat.{ℕ, zero, suc, _+_, _-_, _<_, _≤_}
-use mathlib.Core.List.{List, [], _∷_, _++_}
+use mathlib.Core.List.{List, [], _∷_}
 use mathlib.Core.Path.{_≡_, refl, sym, _∙_, ap}
 use native.Mathlib.Decide.{ℕ-discrete}
 use native.Mathlib.Numerals.{add-one}
 use native.Mathlib.Omega.{arith}
-use lib.ListN.{length, getD, set, replicate, length-set, getD-replicate, List·getD-append, List·getD-eq-default}
+use lib.ListN.{length, getD, set, replicate, length-set, List·getD-append}
 use lib.Seq.{getD-set-same, getD-set-other, getD-at}
-use Rattle.chart.specs.Chart.{Chart, depth}
+use Rattle.chart.specs.Chart.{depth}
 use Rattle.chart.specs.Chart.Chart.{empty}
-use Rattle.node.specs.declared.Node.{Node}
 use Rattle.node.specs.Row.{stands, charts, children, highest, Below}
 use Rattle.node.proofs.Rows.{charts-more, length-charts, depth-stands}
 use Rattle.card.specs.Nodes.{nodeAt, rowTo, rowOf, countOf}
@@ -50,8 +49,8 @@ module _ (nodes : List ℕ) (i : ℕ) where
       let n = nodeAt nodes i in
       let more = stands (charts (rowTo nodes i)) n in
       let there : getD (charts (rowTo nodes (suc i))) i empty ≡ more
-                = ap (λ cs. getD cs i empty) (charts-more (rowTo nodes i) n)
-                ∙ getD-at (charts (rowTo nodes i)) more [] empty i (length-charts (rowTo nodes i) ∙ length-row nodes i) in
+      = ap (λ cs. getD cs i empty) (charts-more (rowTo nodes i) n)
+      ∙ getD-at (charts (rowTo nodes i)) more [] empty i (length-charts (rowTo nodes i) ∙ length-row nodes i) in
       ap depth there ∙ depth-stands (charts (rowTo nodes i)) n
 
   old-depth : (j : ℕ) → j < i → depthAt nodes (suc i) j ≡ depthAt nodes i j
@@ -80,21 +79,25 @@ module _ (nodes : List ℕ) (i : ℕ) (depths : List ℕ) (deep : ℕ)
   now-at j h (yes e) =
       rw (← e)
       (getD-set-same depths i deep 0 inside ∙ new
-      ∙ ap (λ m. 1 + m) (highest-same (λ k. getD depths k 0) (depthAt nodes i) i (children (nodeAt nodes i)) low (known .at))
+      ∙ ap (λ m. 1 + m) (highest-same (λ k. getD depths k 0) (depthAt nodes i) i (children (nodeAt nodes i)) low
+      (known .at))
       ∙ sym (new-depth nodes i))
   now-at j h (no d) =
-      getD-set-other depths i j deep 0 (λ e. d (sym e)) ∙ known .at j (omega arith) ∙ sym (old-depth nodes i j (omega arith))
+      getD-set-other depths i j deep 0 (λ e. d (sym e)) ∙ known .at j (omega arith)
+      ∙ sym (old-depth nodes i j (omega arith))
 
   pub one-more-known : Known nodes (i + 1) (set depths i deep)
   one-more-known =
       record {
         long = length-set depths i deep ∙ known .long;
         small = λ j. still-small j (ℕ-discrete i j);
-        at = rw (add-one i) (λ j h. now-at j h (ℕ-discrete i j)) }
+        at = rw (add-one i) (λ j h. now-at j h (ℕ-discrete i j));
+      }
 
 -- The depth of the root, once all nodes are known.
 pub root-known :
-    (nodes depths : List ℕ) (root : ℕ) → 1 ≤ countOf nodes → root ≡ countOf nodes - 1 → Known nodes (countOf nodes) depths
+    (nodes depths : List ℕ) (root : ℕ) → 1 ≤ countOf nodes → root ≡ countOf nodes - 1
+    → Known nodes (countOf nodes) depths
     → getD depths root 0 ≡ depthOf nodes
 root-known nodes depths root some e known =
     let last : length (rowOf nodes) - 1 ≡ root = omega (arith, length-row nodes (countOf nodes)) in

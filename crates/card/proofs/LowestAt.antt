@@ -1,15 +1,14 @@
 -- The lowest node with a fault, where a test decides each node's condition.
 -- By induction on how many nodes were looked at.
 -- Assumes nothing.
-use Prim.Native.Nat.{ℕ, zero, suc, _<_, _≤_}
+use Prim.Native.Nat.{ℕ, zero, suc, _<_}
 use mathlib.Core.Bool.{Bool, true, false, cond}
-use mathlib.Core.Logic.{_⊎_, inl, inr, _≢_}
-use mathlib.Core.Path.{_≡_, refl, sym}
+use mathlib.Core.Logic.{_≢_}
+use mathlib.Core.Path.{_≡_, refl}
 use native.Mathlib.Decide.{ℕ-discrete}
 use native.Mathlib.Omega.{arith}
-use Rattle.card.specs.declared.Finding.{Finding}
 use Rattle.card.specs.declared.Finding.the-variants.{Fine, Refused}
-use Rattle.card.specs.Findings.{finding, orElse, lowest}
+use Rattle.card.specs.Findings.{lowest}
 use Rattle.card.specs.Table.{Lowest}
 use Rattle.card.proofs.Decided.{Decided, if-not, if-so}
 use Rattle.card.proofs.Lowest.{finding-none, finding-some, found-here}
@@ -26,7 +25,8 @@ module _ (number : ℕ) (real : number ≢ 0) (ok : ℕ → Bool) (At : ℕ → 
   one-here i e = rw e
 
   -- No node has it.
-  pub none→fine : (n : ℕ) → ((i : ℕ) → i < n → Decided (ok i) (At i)) → ((i : ℕ) → i < n → ¬ At i) → lowest fault n ≡ Fine
+  pub none→fine : (n : ℕ) → ((i : ℕ) → i < n → Decided (ok i) (At i)) → ((i : ℕ) → i < n → ¬ At i)
+      → lowest fault n ≡ Fine
   none→fine zero d none = refl
   none→fine (suc n) d none =
       let here : fault n ≡ 0 = none-here n (if-not (d n (omega arith)) (none n (omega arith))) in

@@ -1,9 +1,9 @@
 -- The fault of one node, and what the absence of faults leaves to rely on.
 -- Assumes nothing.
 use Prim.Native.Nat.{ℕ}
-use mathlib.Core.Bool.{Bool, true, false, cond}
+use mathlib.Core.Bool.{Bool, cond}
 use mathlib.Core.List.{List}
-use mathlib.Core.Path.{_≡_, sym, _∙_, ap}
+use mathlib.Core.Path.{_≡_}
 use Rattle.node.specs.declared.Node.{Node}
 use Rattle.card.specs.Nodes.{nodeAt, spareAt}
 use Rattle.card.specs.Findings.{inOrder, faultOf}

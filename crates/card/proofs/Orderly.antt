@@ -1,18 +1,18 @@
--- The test of one node decides the table's condition for it. By the ranges of the kind number: in each, the test looks at the two
--- fields a and b, and the condition comes down to those.
+-- The test of one node decides the table's condition for it. By the ranges of the kind number: in each, the test
+-- looks at the two fields a and b, and the condition comes down to those.
 -- Assumes nothing.
 use Prim.Native.Nat.{ℕ, _<_, _≤_}
-use mathlib.Core.Bool.{Bool, true, false, _&&_, true≢false}
+use mathlib.Core.Bool.{Bool, true≢false}
 use mathlib.Core.Logic.{_≢_, _⊎_, inl, inr}
-use mathlib.Core.Path.{_≡_, refl, sym}
+use mathlib.Core.Path.{_≡_, sym}
 use native.Mathlib.Decide.{decLe}
 use native.Mathlib.Omega.{arith}
-use lib.Dec.{eqb, ltb}
 use Rattle.node.specs.declared.Node.{Node}
 use Rattle.chart.specs.Chart.{Loop}
 use Rattle.node.specs.Kind.{Kind, kindOf, Pair}
 use Rattle.node.specs.Kind.Kind.{nothing, action, pairs, loops, unknown}
-use Rattle.node.proofs.Ranges.{zero-is-nothing, one-and-two-are-actions, three-to-six-are-pairs, seven-to-ten-are-loops, above-ten-is-unknown}
+use Rattle.node.proofs.Ranges.{zero-is-nothing, one-and-two-are-actions, three-to-six-are-pairs}
+use Rattle.node.proofs.Ranges.{seven-to-ten-are-loops, above-ten-is-unknown}
 use Rattle.card.specs.Findings.{inOrder, inOrderAs}
 use Rattle.card.specs.Table.{Fault}
 use Rattle.card.proofs.Decided.{Decided, by-eqb, by-ltb, by-both, in-words}
@@ -61,27 +61,36 @@ module _ (lifelines messages i : ℕ) (n : Node) (c : ℕ) where
   Same k = (c ≢ 0 ⊎ Fields k → AtFault) × (AtFault → c ≢ 0 ⊎ Fields k)
 
   of-nothing : n .kind ≡ 0 → Same nothing
-  of-nothing z = (there, by-fault (λ u. absurd (omega arith)) inl (λ _ h. inr (inl h)) (λ _ h. inr (inr h))
-      (λ l _. absurd (omega arith)) (λ l u _. absurd (omega arith)) (λ l u _. absurd (omega arith))
-      (λ l _. absurd (omega arith)) (λ l u _. absurd (omega arith)))
+  of-nothing z = (
+    there,
+    by-fault (λ u. absurd (omega arith)) inl (λ _ h. inr (inl h)) (λ _ h. inr (inr h))
+        (λ l _. absurd (omega arith)) (λ l u _. absurd (omega arith)) (λ l u _. absurd (omega arith))
+        (λ l _. absurd (omega arith)) (λ l u _. absurd (omega arith)),
+  )
     where
       there : c ≢ 0 ⊎ Fields nothing → AtFault
       there (inl h) = inr (inl (inl h))
       there (inr f) = inr (inl (inr (inl (z, f))))
 
   of-an-action : (r : Bool) → 1 ≤ n .kind → n .kind ≤ 2 → Same (action r)
-  of-an-action r low high = (there, by-fault (λ u. absurd (omega arith)) inl (λ z _. absurd (omega arith)) (λ z _. absurd (omega arith))
-      (λ l _. absurd (omega arith)) (λ _ _ h. inr (inl h)) (λ _ _ h. inr (inr h))
-      (λ l _. absurd (omega arith)) (λ l u _. absurd (omega arith)))
+  of-an-action r low high = (
+    there,
+    by-fault (λ u. absurd (omega arith)) inl (λ z _. absurd (omega arith)) (λ z _. absurd (omega arith))
+        (λ l _. absurd (omega arith)) (λ _ _ h. inr (inl h)) (λ _ _ h. inr (inr h))
+        (λ l _. absurd (omega arith)) (λ l u _. absurd (omega arith)),
+  )
     where
       there : c ≢ 0 ⊎ Fields (action r) → AtFault
       there (inl h) = inr (inl (inl h))
       there (inr f) = inr (inr (inl (low, high, f)))
 
   of-a-pair : (p : Pair) → 3 ≤ n .kind → n .kind ≤ 6 → Same (pairs p)
-  of-a-pair p low high = (there, by-fault (λ u. absurd (omega arith)) inl (λ z _. absurd (omega arith)) (λ z _. absurd (omega arith))
-      (λ l _. absurd (omega arith)) (λ l u _. absurd (omega arith)) (λ l u _. absurd (omega arith))
-      (λ _ h. inr (inl h)) (λ _ _ h. inr (inr h)))
+  of-a-pair p low high = (
+    there,
+    by-fault (λ u. absurd (omega arith)) inl (λ z _. absurd (omega arith)) (λ z _. absurd (omega arith))
+        (λ l _. absurd (omega arith)) (λ l u _. absurd (omega arith)) (λ l u _. absurd (omega arith))
+        (λ _ h. inr (inl h)) (λ _ _ h. inr (inr h)),
+  )
     where
       there : c ≢ 0 ⊎ Fields (pairs p) → AtFault
       there (inl h) = inr (inl (inl h))
@@ -89,9 +98,12 @@ module _ (lifelines messages i : ℕ) (n : Node) (c : ℕ) where
       there (inr (inr h)) = inr (inr (inr (inr (low, high, h))))
 
   of-a-loop : (k : Loop) → 7 ≤ n .kind → n .kind ≤ 10 → Same (loops k)
-  of-a-loop k low high = (there, by-fault (λ u. absurd (omega arith)) inl (λ z _. absurd (omega arith)) (λ z _. absurd (omega arith))
-      (λ _ h. inr (inl h)) (λ l u _. absurd (omega arith)) (λ l u _. absurd (omega arith))
-      (λ _ h. inr (inr h)) (λ l u _. absurd (omega arith)))
+  of-a-loop k low high = (
+    there,
+    by-fault (λ u. absurd (omega arith)) inl (λ z _. absurd (omega arith)) (λ z _. absurd (omega arith))
+        (λ _ h. inr (inl h)) (λ l u _. absurd (omega arith)) (λ l u _. absurd (omega arith))
+        (λ _ h. inr (inr h)) (λ l u _. absurd (omega arith)),
+  )
     where
       there : c ≢ 0 ⊎ Fields (loops k) → AtFault
       there (inl h) = inr (inl (inl h))
@@ -115,8 +127,10 @@ module _ (lifelines messages i : ℕ) (n : Node) (c : ℕ) where
       by (yes h) (yes x) y z =
           let (r, e) = one-and-two-are-actions (n .kind) h x in told-of (action r) e (of-an-action r h x)
       by (yes h) (no x) (yes y) z =
-          let (p, e) = three-to-six-are-pairs (n .kind) (omega arith) y in told-of (pairs p) e (of-a-pair p (omega arith) y)
+          let (p, e) = three-to-six-are-pairs (n .kind) (omega arith) y in told-of (pairs p) e
+          (of-a-pair p (omega arith) y)
       by (yes h) (no x) (no y) (yes z) =
-          let (k, e) = seven-to-ten-are-loops (n .kind) (omega arith) z in told-of (loops k) e (of-a-loop k (omega arith) z)
+          let (k, e) = seven-to-ten-are-loops (n .kind) (omega arith) z in told-of (loops k) e
+          (of-a-loop k (omega arith) z)
       by (yes h) (no x) (no y) (no z) =
           told-of unknown (above-ten-is-unknown (n .kind) (omega arith)) (of-the-unknown (omega arith))

@@ -1,18 +1,16 @@
--- What is promised of cards, for whoever reads nothing else: each sentence of 01 on cards, as a theorem that only cites others.
--- `check` answers `checking` of the bytes and `note` hands back `noteOf` of them: that is their contract (src/lib.rt). What is said
--- here of the two definitions is therefore said of the code.
+-- What is promised of cards, for whoever reads nothing else: each sentence of 01 on cards, as a theorem that only
+-- cites others. `check` answers `checking` of the bytes and `note` hands back `noteOf` of them: that is their
+-- contract (src/lib.rt). What is said here of the two definitions is therefore said of the code.
 -- Assumes nothing.
-use Prim.Native.Nat.{ℕ, _-_, _≤_, _<_}
-use mathlib.Core.Bool.{Bool, true, false}
+use Prim.Native.Nat.{ℕ, _≤_}
 use mathlib.Core.List.{List, []}
 use mathlib.Core.Logic.{_≢_, _↔_}
 use mathlib.Core.Path.{_≡_, refl, sym, _∙_, ap}
 use native.Mathlib.Omega.{arith}
 use lib.Dec.{ltb}
-use lib.ListN.{length, take}
+use lib.ListN.{take}
 use borrow.Author.Tests.{eq-eqb, ne-eqb}
 use Rattle.chart.specs.Chart.{size, depth}
-use Rattle.card.specs.declared.Checked.{Checked}
 use Rattle.card.specs.declared.Finding.{Finding}
 use Rattle.card.specs.declared.Finding.the-variants.{Fine, Refused}
 use Rattle.card.specs.Parts.{firstAt, lifelinesOf, messagesOf, nodesOf}
@@ -24,7 +22,8 @@ use Rattle.card.specs.Table.{Told, Sound, lifelines, messages}
 use Rattle.card.specs.Table.Told.{one, two, three, four, five, six, sound}
 use Rattle.card.specs.Meaning.{Declared, deeds}
 use Rattle.card.proofs.Deciding.{at-least-six, same-lifelines, same-messages}
-use Rattle.card.proofs.Telling.{told→answer, answer→told, sound→answer, sound→faultless, sound→once, sound→orderly}
+use Rattle.card.proofs.Telling.{told→answer, answer→told, sound→answer}
+use Rattle.card.proofs.Telling.{sound→faultless, sound→once, sound→orderly}
 use Rattle.card.proofs.Charted.{as-many-nodes, the-same-act, chart-declared}
 
 told-zero : (card : List ℕ) {number place : ℕ} → Told card number place → number ≡ 0 → Sound card
@@ -59,15 +58,16 @@ module _ (card : List ℕ) where
       by Fine h = absurd (h refl)
       by (Refused number place) h = refl
 
-  -- "Checking a sound card gives number 0, place 0, its number of nodes, its depth, and the number of different lifelines that act
-  -- in it": of the chart that the card is.
+  -- "Checking a sound card gives number 0, place 0, its number of nodes, its depth, and the number of different
+  -- lifelines that act in it": of the chart that the card is.
   module _ (s : Sound card) where
     pub sound-gives-place-zero : checking card .place ≡ 0
     sound-gives-place-zero = told→answer card (sound s) .1
 
     pub sound-gives-the-number-of-nodes : checking card .nodes ≡ size (cardChart card)
     sound-gives-the-number-of-nodes =
-        ap (λ a. a .nodes) (sound→answer card s) ∙ sym (as-many-nodes (nodesOf card) (sound→faultless card s) (sound→once card s))
+        ap (λ a. a .nodes) (sound→answer card s)
+        ∙ sym (as-many-nodes (nodesOf card) (sound→faultless card s) (sound→once card s))
 
     pub sound-gives-the-depth : checking card .depth ≡ depth (cardChart card)
     sound-gives-the-depth = ap (λ a. a .depth) (sound→answer card s)

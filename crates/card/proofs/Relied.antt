@@ -1,19 +1,19 @@
--- What may be relied on once the rules of the whole card and of its nodes hold: `Faultless`.
--- A back distance in rule is the length of the nodes' bytes. A node in order has its children below itself and its lifeline
--- below the declared number.
+-- What may be relied on once the rules of the whole card and of its nodes hold: `Faultless`. A back distance in rule
+-- is the length of the nodes' bytes. A node in order has its children below itself and its lifeline below the
+-- declared number.
 -- Assumes nothing.
-use Prim.Native.Nat.{ℕ, _+_, _-_, _/_, _%_, _≤_, _<_}
+use Prim.Native.Nat.{ℕ, _-_, _%_, _≤_, _<_}
 use mathlib.Core.Bool.{Bool, true, false, cond, _&&_}
 use mathlib.Core.List.{List}
-use mathlib.Core.Path.{_≡_, refl, sym, _∙_}
+use mathlib.Core.Path.{_≡_, refl, sym}
 use native.Mathlib.Omega.{arith}
 use lib.Dec.{T, eqb, ltb, leb, eqb→eq}
-use lib.ListN.{length, take, drop, length-take, length-drop}
+use lib.ListN.{length, drop, length-take, length-drop}
 use borrow.Author.Tests.{eqb-true, ltb-true, leb-true}
 use Rattle.node.specs.declared.Node.{Node}
 use Rattle.node.specs.Kind.{Kind, kindOf}
 use Rattle.node.specs.Kind.Kind.{nothing, action, pairs, loops, unknown}
-use Rattle.node.specs.Row.{children, childrenAs, Below}
+use Rattle.node.specs.Row.{childrenAs, Below}
 use Rattle.card.specs.declared.Finding.{Finding}
 use Rattle.card.specs.declared.Finding.the-variants.{Fine}
 use Rattle.card.specs.Parts.{trailerAt, firstAt, backOf, lifelinesOf, messagesOf, nodesOf}
@@ -38,19 +38,30 @@ pub record InRule (card : List ℕ) : Type 0 where
 
 pub back→ : (card : List ℕ) → backInRule card ≡ true → InRule card
 back→ card h =
-    let (w, rest) = both (eqb (backOf card % 4) 0) (within 4 (backOf card) 1020 && leb (backOf card) (trailerAt card)) h in
+    let (w, rest) = both (eqb (backOf card % 4) 0)
+    (within 4 (backOf card) 1020 && leb (backOf card) (trailerAt card)) h in
     let (r, i) = both (within 4 (backOf card) 1020) (leb (backOf card) (trailerAt card)) rest in
     let (s, f) = within→ 4 (backOf card) 1020 r in
-    record { whole = eqb-true (backOf card % 4) 0 w; some = s; few = f; inside = leb-true (backOf card) (trailerAt card) i }
+    record {
+      whole = eqb-true (backOf card % 4) 0 w;
+      some = s;
+      few = f;
+      inside = leb-true (backOf card)
+          (trailerAt card) i;
+    }
 
 -- The nodes take as many bytes as the back distance says.
 pub length-nodes : (card : List ℕ) → InRule card → length (nodesOf card) ≡ backOf card
 length-nodes card rule =
-    omega
-    (arith, length-take (trailerAt card - firstAt card) (drop (firstAt card) card), length-drop (firstAt card) card,
-     rule .inside)
+    omega (
+      arith,
+      length-take (trailerAt card - firstAt card) (drop (firstAt card) card),
+      length-drop (firstAt card) card,
+      rule .inside,
+    )
 
-in-order→lower : (k : Kind) (lifelines messages i : ℕ) (n : Node) → inOrderAs k lifelines messages i n ≡ true → Below i (childrenAs k n)
+in-order→lower : (k : Kind) (lifelines messages i : ℕ) (n : Node) → inOrderAs k lifelines messages i n ≡ true
+    → Below i (childrenAs k n)
 in-order→lower nothing lifelines messages i n h = tt
 in-order→lower (action r) lifelines messages i n h = tt
 in-order→lower (pairs p) lifelines messages i n h =
@@ -90,16 +101,22 @@ faultless card rule few fine =
     let lines = lifelinesOf card in
     let messages = messagesOf card in
     let nodes = nodesOf card in
-    let order : (i : ℕ) → i < countOf nodes → inOrderAs (kindOf (nodeAt nodes i .kind)) lines messages i (nodeAt nodes i) ≡ true
-              = λ i h.
-              (both (eqb (spareAt nodes i) 0) (inOrderAs (kindOf (nodeAt nodes i .kind)) lines messages i (nodeAt nodes i))
-              (no-fault→ lines messages nodes i (fine→none (faultOf lines messages nodes) (countOf nodes) fine i h))) .1 in
+    let order : (i : ℕ) → i < countOf nodes
+    → inOrderAs (kindOf (nodeAt nodes i .kind)) lines messages i (nodeAt nodes i) ≡ true
+    = λ i h.
+    (both (eqb (spareAt nodes i) 0) (inOrderAs (kindOf (nodeAt nodes i .kind)) lines messages i (nodeAt nodes i))
+    (no-fault→ lines messages nodes i (fine→none (faultOf lines messages nodes) (countOf nodes) fine i h))) .1 in
     record {
       some = omega (arith, length-nodes card rule, rule .some);
       few = omega (arith, length-nodes card rule, rule .few);
       lower = λ i h. in-order→lower (kindOf (nodeAt nodes i .kind)) lines messages i (nodeAt nodes i) (order i h);
       held = λ i d h acts.
-      omega (arith, in-order→held (kindOf (nodeAt nodes i .kind)) lines messages i (nodeAt nodes i) d (order i h) acts) }
+          omega (
+            arith,
+            in-order→held (kindOf (nodeAt nodes i .kind)) lines messages i (nodeAt nodes i) d
+                (order i h) acts,
+          );
+    }
 
 pub few-nodes : (card : List ℕ) → backInRule card ≡ true → countOf (nodesOf card) ≤ 255
 few-nodes card h =
@@ -109,7 +126,8 @@ few-nodes card h =
 -- What was found of the parts of a card was found of the card.
 pub found-of-the-card :
     (card nodes : List ℕ) (lifelines messages : ℕ) {found : Finding}
-    → lifelines ≡ lifelinesOf card → messages ≡ messagesOf card → nodes ≡ nodesOf card → found ≡ faulty lifelines messages nodes
+    → lifelines ≡ lifelinesOf card → messages ≡ messagesOf card → nodes ≡ nodesOf card
+    → found ≡ faulty lifelines messages nodes
     → faulty (lifelinesOf card) (messagesOf card) (nodesOf card) ≡ found
 found-of-the-card card nodes lifelines messages el em en h = sym (rw (el, em, en) at h)
 

@@ -4,7 +4,7 @@
 use Prim.Native.Nat.{ℕ, zero, suc, _+_, _*_, _%_, _^_, _<_, _≤_}
 use mathlib.Core.Bool.{Bool, true, false, cond, _||_}
 use mathlib.Core.List.{List, [], _∷_, _++_}
-use mathlib.Core.Path.{_≡_, refl, sym, _∙_, ap}
+use mathlib.Core.Path.{_≡_, refl, sym, _∙_}
 use native.Mathlib.Decide.{ℕ-discrete, decLe}
 use native.Mathlib.Nat.{pow-suc, one-mul, mod-eq-of-lt}
 use native.Mathlib.Numerals.{add-one}
@@ -12,11 +12,12 @@ use native.Mathlib.Omega.{arith}
 use lib.Bits.{bitOr, or-block}
 use lib.Count.{ones, ones-cat}
 use lib.Dec.{T, eqb, eqb-refl}
-use lib.Pow.{pow-pos, pow-lt}
+use lib.Pow.{pow-lt}
 use borrow.Author.Tests.{eq-eqb, ne-eqb}
 use Rattle.node.specs.declared.Node.{Node}
 use Rattle.node.specs.Kind.{kindOf}
-use Rattle.node.proofs.Ranges.{zero-is-nothing, one-and-two-are-actions, three-to-six-are-pairs, seven-to-ten-are-loops, above-ten-is-unknown}
+use Rattle.node.proofs.Ranges.{zero-is-nothing, one-and-two-are-actions, three-to-six-are-pairs}
+use Rattle.node.proofs.Ranges.{seven-to-ten-are-loops, above-ten-is-unknown}
 use Rattle.card.specs.Nodes.{nodeAt, rowTo}
 use Rattle.card.specs.Figures.{actsAs, acts, tally}
 use Rattle.card.specs.Counting.{bitsOf}
@@ -69,7 +70,11 @@ pub bits-or : (p q : ℕ → Bool) (n : ℕ) → bitOr (bitsOf p n) (bitsOf q n)
 unfolding bitsOf
 bits-or p q zero = refl
 bits-or p q (suc n) =
-    rw (or-block n (cond (p n) 1 0) (cond (q n) 1 0) (bitsOf p n) (bitsOf q n) (bits-lt p n) (bits-lt q n), or-bit (p n) (q n), bits-or p q n)
+    rw (
+      or-block n (cond (p n) 1 0) (cond (q n) 1 0) (bitsOf p n) (bitsOf q n) (bits-lt p n) (bits-lt q n),
+      or-bit (p n) (q n),
+      bits-or p q n,
+    )
 
 ones-of-a-bit : (b : Bool) → ones (cond b 1 0) ≡ cond b 1 0
 unfolding ones
@@ -115,13 +120,15 @@ module _ (n : Node) where
   no-actor-above low = bits-none actor (no-actor low) 16
 
 -- One more node, one more lifeline.
-acts-more : (row : List Node) (n : Node) (d : ℕ) → acts (row ++ (n ∷ [])) d ≡ (acts row d || actsAs (kindOf (n .kind)) n d)
+acts-more : (row : List Node) (n : Node) (d : ℕ)
+    → acts (row ++ (n ∷ [])) d ≡ (acts row d || actsAs (kindOf (n .kind)) n d)
 acts-more [] n d = or-false (actsAs (kindOf (n .kind)) n d)
   where
     or-false : (b : Bool) → (b || false) ≡ b
     or-false true = refl
     or-false false = refl
-acts-more (m ∷ row) n d = rw (acts-more row n d) (or-assoc (actsAs (kindOf (m .kind)) m d) (acts row d) (actsAs (kindOf (n .kind)) n d))
+acts-more (m ∷ row) n d = rw (acts-more row n d)
+    (or-assoc (actsAs (kindOf (m .kind)) m d) (acts row d) (actsAs (kindOf (n .kind)) n d))
   where
     or-assoc : (a b c : Bool) → (a || (b || c)) ≡ ((a || b) || c)
     or-assoc true b c = refl
@@ -133,7 +140,14 @@ pub one-more-acts :
     → n ≡ nodeAt nodes i → bits ≡ bitsOf (actsAs (kindOf (n .kind)) n) 16 → set ≡ bitsOf (acts (rowTo nodes i)) 16
     → bitOr set bits ≡ bitsOf (acts (rowTo nodes (i + 1))) 16
 one-more-acts nodes i set bits n en eb es =
-    rw (es, eb, add-one i, en, bits-or (acts (rowTo nodes i)) (actsAs (kindOf (nodeAt nodes i .kind)) (nodeAt nodes i)) 16)
+    rw (
+      es,
+      eb,
+      add-one i,
+      en,
+      bits-or (acts (rowTo nodes i))
+          (actsAs (kindOf (nodeAt nodes i .kind)) (nodeAt nodes i)) 16,
+    )
     (bits-same _ _ (λ d. sym (acts-more (rowTo nodes i) (nodeAt nodes i) d)) 16)
 
 pub no-actors-yet : (nodes : List ℕ) → bitsOf (acts (rowTo nodes 0)) 16 ≡ 0

@@ -1,5 +1,6 @@
--- The answer to a card is what 01's table tells: each number and place under its exact condition, and no other.
--- The answer is looked up rule by rule, both ways: from the condition that holds to the answer, and from the answer to the condition.
+-- The answer to a card is what 01's table tells: each number and place under its exact condition, and no other. The
+-- answer is looked up rule by rule, both ways: from the condition that holds to the answer, and from the answer to
+-- the condition.
 -- Assumes nothing.
 use Prim.Native.Nat.{ℕ, _-_, _<_, _≤_}
 use mathlib.Core.Bool.{Bool, true, false}
@@ -21,15 +22,17 @@ use Rattle.card.specs.Figures.{depthOf}
 use Rattle.card.specs.Findings.{framed, backInRule, countsInRange, inOrder, inOrderAs, faulty, misused}
 use Rattle.card.specs.Checking.{checking, soundness}
 use Rattle.card.specs.Faultless.{Faultless}
-use Rattle.card.specs.Table.{Trailed, Ordered, Tree, Sound, Told, Lowest, NoCard, BackOut, CountsOut, FaultAt, MisuseAt, TooDeep, count}
+use Rattle.card.specs.Table.{Trailed, Ordered, Tree, Sound, Told, NoCard, BackOut, FaultAt, MisuseAt, count}
 use Rattle.card.specs.Table.Told.{one, two, three, four, five, six, sound}
 use Rattle.card.proofs.Tests.{both}
 use Rattle.card.proofs.Relied.{InRule, back→, few-lifelines, faultless}
 use Rattle.card.proofs.Decided.{Decided, if-not, if-so}
-use Rattle.card.proofs.Deciding.{at-least-six, framed-decided, back-decided, counts-decided, same-count, fault-decided, misuse-decided}
+use Rattle.card.proofs.Deciding.{at-least-six, framed-decided, back-decided, counts-decided}
+use Rattle.card.proofs.Deciding.{same-count, fault-decided, misuse-decided}
 use Rattle.card.proofs.LowestAt.{Looked, look, none→fine, lowest→refused}
 use Rattle.card.proofs.LowestAt.Looked.{nowhere, somewhere}
-use Rattle.card.proofs.Answers.{answer-one, answer-two, answer-three, answer-four, answer-five, answer-six, answer-sound}
+use Rattle.card.proofs.Answers.{Passed, answer-one, answer-two, answer-three}
+use Rattle.card.proofs.Answers.{answer-four, answer-five, answer-six, answer-sound}
 
 four-is-real : _≢_ {A = ℕ} 4 0
 four-is-real e = omega arith
@@ -57,6 +60,9 @@ module _ (card : List ℕ) where
 
     pub is-counted : countsInRange card ≡ true
     is-counted = if-not (counts-decided card long) (t .counts)
+
+    pub passed : Passed card
+    passed = record { one = is-framed; two = is-in-rule; three = is-counted }
 
     pub rule : InRule card
     rule = back→ card is-in-rule
@@ -95,13 +101,14 @@ module _ (card : List ℕ) where
       let tree = s .tree in
       let t = tree .ordered .trailed in
       let shallow : ¬ (16 < depthOf nodes) = s .shallow in
-      answer-sound card (is-framed t) (is-in-rule t) (is-counted t) (no-fault (tree .ordered)) (no-misuse tree) (omega arith)
+      answer-sound card (passed t) (no-fault (tree .ordered)) (no-misuse tree) (omega arith)
 
   numbered : {a : Checked} → checking card ≡ a → (checking card .number ≡ a .number) × (checking card .place ≡ a .place)
   numbered e = (ap (λ a. a .number) e, ap (λ a. a .place) e)
 
   -- What the table tells is the answer.
-  pub told→answer : {number place : ℕ} → Told card number place → (checking card .number ≡ number) × (checking card .place ≡ place)
+  pub told→answer : {number place : ℕ} → Told card number place
+      → (checking card .number ≡ number) × (checking card .place ≡ place)
   told→answer (one h) = numbered (answer-one card (if-so (framed-decided card) h))
   told→answer (two f h) =
       numbered (answer-two card (if-not (framed-decided card) f) (if-so (back-decided card (long-of f)) h))
@@ -111,21 +118,23 @@ module _ (card : List ℕ) where
       (if-so (counts-decided card (long-of f)) h))
   told→answer (four {i = i} t l) =
       numbered
-      (answer-four card (is-framed t) (is-in-rule t) (is-counted t) 4 i
-      (lowest→refused 4 four-is-real (orderly t) (FaultAt card) (countOf nodes) i (each-order-decided t) (rw (counted-alike t) l)))
+      (answer-four card (passed t) 4 i
+      (lowest→refused 4 four-is-real (orderly t) (FaultAt card) (countOf nodes) i (each-order-decided t)
+      (rw (counted-alike t) l)))
   told→answer (five {j = j} o l) =
       let t = o .trailed in
       numbered
-      (answer-five card (is-framed t) (is-in-rule t) (is-counted t) (no-fault o) 5 j
+      (answer-five card (passed t) 5 j (no-fault o)
       (lowest→refused 5 five-is-real once (MisuseAt card) (countOf nodes - 1) j (each-use-decided (countOf nodes - 1))
       (rw (counted-alike t) l)))
   told→answer (six tree h) =
       let t = tree .ordered .trailed in
       numbered
-      (answer-six card (is-framed t) (is-in-rule t) (is-counted t) (no-fault (tree .ordered)) (no-misuse tree) h)
+      (answer-six card (passed t) (no-fault (tree .ordered)) (no-misuse tree) h)
   told→answer (sound s) = numbered (sound→answer s)
 
-  answered : {a : Checked} → checking card ≡ a → Told card (a .number) (a .place) → Told card (checking card .number) (checking card .place)
+  answered : {a : Checked} → checking card ≡ a → Told card (a .number) (a .place)
+      → Told card (checking card .number) (checking card .place)
   answered e t = rw e t
 
   by-six :
@@ -137,17 +146,18 @@ module _ (card : List ℕ) where
       let t = tree .ordered .trailed in
       let deep : 16 < depthOf nodes = omega arith in
       answered
-      (answer-six card (is-framed t) (is-in-rule t) (is-counted t) (no-fault (tree .ordered)) (no-misuse tree) deep)
+      (answer-six card (passed t) (no-fault (tree .ordered)) (no-misuse tree) deep)
       (six tree deep)
 
   by-five :
       (o : Ordered card) → Looked 5 five-is-real once (MisuseAt card) (countOf nodes - 1)
       → Told card (checking card .number) (checking card .place)
   by-five o (nowhere e none) =
-      by-six (record { ordered = o; once = λ j h. none j (omega (arith, counted-alike (o .trailed))) }) (decLe (depthOf nodes) 16)
+      by-six (record { ordered = o; once = λ j h. none j (omega (arith, counted-alike (o .trailed))) })
+      (decLe (depthOf nodes) 16)
   by-five o (somewhere j e l) =
       let t = o .trailed in
-      answered (answer-five card (is-framed t) (is-in-rule t) (is-counted t) (no-fault o) 5 j e)
+      answered (answer-five card (passed t) 5 j (no-fault o) e)
       (five o (rw (counted-alike t) at l))
 
   by-four :
@@ -157,7 +167,7 @@ module _ (card : List ℕ) where
       by-five (record { trailed = t; nodes = λ i h. none i (omega (arith, counted-alike t)) })
       (look 5 five-is-real once (MisuseAt card) (countOf nodes - 1) (each-use-decided (countOf nodes - 1)))
   by-four t (somewhere i e l) =
-      answered (answer-four card (is-framed t) (is-in-rule t) (is-counted t) 4 i e) (four t (rw (counted-alike t) at l))
+      answered (answer-four card (passed t) 4 i e) (four t (rw (counted-alike t) at l))
 
   by-three :
       ¬ NoCard card → ¬ BackOut card → (b : Bool) → countsInRange card ≡ b
@@ -189,7 +199,8 @@ module _ (card : List ℕ) where
   sound→orderly s i h =
       let o = s .tree .ordered in
       let t = o .trailed in
-      (both (eqb (spareAt nodes i) 0) (inOrderAs (kindOf (nodeAt nodes i .kind)) (lifelinesOf card) (messagesOf card) i (nodeAt nodes i))
+      (both (eqb (spareAt nodes i) 0) (inOrderAs (kindOf (nodeAt nodes i .kind)) (lifelinesOf card)
+      (messagesOf card) i (nodeAt nodes i))
       (if-not (each-order-decided t i h) (o .nodes i (omega (arith, counted-alike t))))) .1
 
   pub sound→once : (s : Sound card) (j : ℕ) → j < countOf nodes - 1 → uses (cardRow card) j ≡ 1

@@ -1,6 +1,6 @@
 -- The answer to a card.
 -- Assumes nothing.
-use Prim.Native.Nat.{ℕ, _+_}
+use Prim.Native.Nat.{ℕ}
 use mathlib.Core.Bool.{Bool, cond}
 use mathlib.Core.List.{List, [], _∷_}
 use lib.Dec.{leb}
@@ -10,7 +10,7 @@ use Rattle.card.specs.declared.Finding.the-variants.{Fine, Refused}
 use Rattle.card.specs.Parts.{lifelinesOf, messagesOf, nodesOf}
 use Rattle.card.specs.Nodes.{countOf}
 use Rattle.card.specs.Figures.{depthOf, actingOf}
-use Rattle.card.specs.Findings.{framed, backInRule, countsInRange, finding, faulty, misused, orElse}
+use Rattle.card.specs.Findings.{framed, backInRule, countsInRange, faulty, misused, orElse}
 
 -- A rule of the whole card: refused with its number at place 0 unless it holds.
 abbrev pub rule : ℕ → Bool → Finding

@@ -1,4 +1,5 @@
--- What the first four rules leave to rely on: a working condition of the code that counts children, depth and lifelines.
+-- What the first four rules leave to rely on: a working condition of the code that counts children, depth and
+-- lifelines.
 -- Assumes nothing.
 use Prim.Native.Nat.{ℕ, _≤_, _<_}
 use mathlib.Core.List.{List}

@@ -2,10 +2,10 @@
 -- (01, The chart card).
 -- Assumes nothing.
 use Prim.Native.Nat.{ℕ, zero, suc, _+_}
-use mathlib.Core.Bool.{Bool, true, false, cond, _||_}
+use mathlib.Core.Bool.{Bool, false, cond, _||_}
 use mathlib.Core.List.{List, [], _∷_}
 use lib.Dec.{eqb}
-use Rattle.chart.specs.Chart.{Chart, depth}
+use Rattle.chart.specs.Chart.{depth}
 use Rattle.node.specs.declared.Node.{Node}
 use Rattle.node.specs.Kind.{Kind, kindOf}
 use Rattle.node.specs.Kind.Kind.{nothing, action, pairs, loops, unknown}

@@ -1,7 +1,7 @@
 -- What refuses a card: numbers 1 to 6 of 01's table, each by itself. `Checking` puts them in their order.
 -- Assumes nothing.
-use Prim.Native.Nat.{ℕ, zero, suc, _+_, _-_, _%_}
-use mathlib.Core.Bool.{Bool, true, false, cond, _&&_}
+use Prim.Native.Nat.{ℕ, zero, suc, _-_, _%_}
+use mathlib.Core.Bool.{Bool, false, cond, _&&_}
 use mathlib.Core.List.{List}
 use lib.Dec.{eqb, ltb, leb}
 use lib.ListN.{length}
@@ -11,9 +11,8 @@ use Rattle.node.specs.Kind.Kind.{nothing, action, pairs, loops, unknown}
 use Rattle.node.specs.Row.{uses}
 use Rattle.card.specs.declared.Finding.{Finding}
 use Rattle.card.specs.declared.Finding.the-variants.{Fine, Refused}
-use Rattle.card.specs.Parts.{trailerByte, trailerAt, backOf, lifelinesOf, messagesOf, nodesOf}
+use Rattle.card.specs.Parts.{trailerByte, trailerAt, backOf, lifelinesOf, messagesOf}
 use Rattle.card.specs.Nodes.{countOf, nodeAt, spareAt, rowOf}
-use Rattle.card.specs.Figures.{depthOf}
 
 -- From low to high.
 abbrev pub within : ℕ → ℕ → ℕ → Bool
@@ -31,8 +30,8 @@ backInRule card = eqb (backOf card % 4) 0 && (within 4 (backOf card) 1020 && leb
 abbrev pub countsInRange : List ℕ → Bool
 countsInRange card = within 1 (lifelinesOf card) 16 && within 1 (messagesOf card) 64
 
--- 4: node i has a known kind, zero in its unused fields, a declared lifeline and message, and children lower than itself; c is
--- never used. This is the one definition of what is wrong with a node.
+-- 4: node i has a known kind, zero in its unused fields, a declared lifeline and message, and children lower than
+-- itself; c is never used. This is the one definition of what is wrong with a node.
 abbrev pub inOrderAs : Kind → ℕ → ℕ → ℕ → Node → Bool
 inOrderAs nothing lifelines messages i n = eqb (n .a) 0 && eqb (n .b) 0
 inOrderAs (action r) lifelines messages i n = ltb (n .a) lifelines && ltb (n .b) messages

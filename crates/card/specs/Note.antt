@@ -8,6 +8,7 @@ use lib.ListN.{take}
 use Rattle.card.specs.Parts.{firstAt}
 use Rattle.card.specs.Checking.{checking}
 
--- The note is handed back as that part of the caller's own bytes; a refused card gives an empty part (01, The chart card).
+-- The note is handed back as that part of the caller's own bytes; a refused card gives an empty part (01, The chart
+-- card).
 abbrev pub noteOf : List ℕ → List ℕ
 noteOf card = cond (eqb (checking card .number) 0) (take (firstAt card) card) []

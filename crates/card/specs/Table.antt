@@ -1,5 +1,5 @@
--- Numbers 1 to 6 of 01's table a second time: as conditions on the bytes, in the table's words and order, with nothing shared with
--- `Checking` but the charts of a row. proofs/Telling.antt shows that both say the same.
+-- Numbers 1 to 6 of 01's table a second time: as conditions on the bytes, in the table's words and order, with
+-- nothing shared with `Checking` but the charts of a row. proofs/Telling.antt shows that both say the same.
 -- Assumes nothing.
 use Prim.Native.Nat.{ℕ, _+_, _-_, _*_, _/_, _%_, _<_, _≤_}
 use mathlib.Core.List.{List}

@@ -4,9 +4,8 @@ ghost use Prim.Native.Nat.{_<_, _≤_};
 ghost use lib.ListN.{length};
 ghost use Rattle.card.specs.Nodes.{countOf};
 ghost use Rattle.card.specs.Findings.{inOrder, faultOf, faulty};
-
-use crate::nodes;
 use crate::Finding;
+use crate::nodes;
 use node::Node;
 
 // Whether node i is in order: `c` is its fourth byte.
@@ -50,7 +49,10 @@ pub fn lowest_faulty(nodes: &[u8], lifelines: u32, messages: u32) -> Finding
     while i < count {
         let number = fault(nodes, i, lifelines, messages);
         if number != 0 {
-            return Finding::Refused { number, place: i as u32 };
+            return Finding::Refused {
+                number,
+                place: i as u32,
+            };
         }
         i += 1;
     }

@@ -8,18 +8,13 @@ ghost use Rattle.node.specs.Row.{children, highest, Below};
 ghost use Rattle.card.specs.Figures.{depthOf, actsAs, actingOf};
 ghost use Rattle.card.specs.Faultless.{Faultless};
 ghost use Rattle.card.specs.Counting.{bitsOf};
-
 use crate::nodes;
 use node::Node;
 
 fn larger(x: u8, y: u8) -> u8
     ensures { λ r. ⌜ r ≡ max x y ⌝ }
 {
-    if x < y {
-        y
-    } else {
-        x
-    }
+    if x < y { y } else { x }
 }
 
 // The depth of a node: one more than that of its deepest child.

@@ -1,20 +1,19 @@
-// The chart card: any run of bytes gets its one answer, and a sound card is a chart (01, "The chart card" and numbers 1 to 6
-// of "Verdicts and numbers given").
+// The chart card: any run of bytes gets its one answer, and a sound card is a chart (01, "The chart card" and numbers
+// 1 to 6 of "Verdicts and numbers given").
 ghost use mathlib.Core.Path.{_≡_};
 ghost use Rattle.card.specs.Checking.{checking, refusal};
 ghost use Rattle.card.specs.Note.{noteOf};
-
 use node::Node;
 
-pub mod parts;
-pub mod nodes;
-mod rules;
 mod faults;
-mod trees;
 mod figures;
+pub mod nodes;
+pub mod parts;
+mod rules;
+mod trees;
 
-
-// The answer to a card: number 0, place 0 and the figures of a sound one; or the number and place of a refusal, and no figures.
+// The answer to a card: number 0, place 0 and the figures of a sound one; or the number and place of a refusal, and
+// no figures.
 #[repr(C)]
 pub struct Checked {
     pub number: u32,
@@ -42,7 +41,8 @@ fn refused(number: u32, place: u32) -> Checked
     }
 }
 
-// The answer to any run of bytes as a card. The rules stand in the order of 01's table: the first that is broken answers.
+// The answer to any run of bytes as a card. The rules stand in the order of 01's table: the first that is broken
+// answers.
 pub fn check(card: &[u8]) -> Checked
     ensures { λ r. ⌜ r ≡ checking (now (card .entry)) ⌝ }
 {

@@ -2,7 +2,6 @@
 ghost use mathlib.Core.Path.{_≡_};
 ghost use Prim.Native.Nat.{_<_};
 ghost use Rattle.card.specs.Nodes.{countOf, nodeAt, spareAt};
-
 use crate::parts::wide;
 use node::Node;
 

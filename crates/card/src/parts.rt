@@ -1,5 +1,5 @@
-// The parts of a card: note, nodes and a trailer of six bytes (01, "The chart card"). For bytes that are no card these still
-// have an answer; the rules say what makes a card of them.
+// The parts of a card: note, nodes and a trailer of six bytes (01, "The chart card"). For bytes that are no card
+// these still have an answer; the rules say what makes a card of them.
 ghost use mathlib.Core.Path.{_≡_};
 ghost use Prim.Native.Nat.{_<_};
 ghost use Rattle.card.specs.Parts.{trailerByte, backOf, lifelinesOf, messagesOf, trailerAt, firstAt, nodesOf};

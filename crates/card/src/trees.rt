@@ -7,9 +7,8 @@ ghost use Rattle.card.specs.Nodes.{countOf, rowOf};
 ghost use Rattle.card.specs.Findings.{misused};
 ghost use Rattle.card.specs.Faultless.{Faultless};
 ghost use Rattle.card.specs.Counting.{oneMore, oneMoreEach};
-
-use crate::nodes;
 use crate::Finding;
+use crate::nodes;
 use node::Node;
 
 fn count_child(counts: &mut [u16; 255], child: u32)
@@ -62,7 +61,10 @@ pub fn lowest_misused(nodes: &[u8]) -> Finding
     let mut j = 0;
     while j < root {
         if counts[j] != 1 {
-            return Finding::Refused { number: 5, place: j as u32 };
+            return Finding::Refused {
+                number: 5,
+                place: j as u32,
+            };
         }
         j += 1;
     }

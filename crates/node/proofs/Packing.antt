@@ -1,8 +1,8 @@
--- A node packed into a place and unpacked is the same node, and a place unpacked and packed is the same number.
--- Both rest on one thing, said over the width: a number shifted left by `width` bits with another one's lowest bits put in by a
--- mask is the two joined. The rest is division with remainder.
+-- A node packed into a place and unpacked is the same node, and a place unpacked and packed is the same number. Both
+-- rest on one thing, said over the width: a number shifted left by `width` bits with another one's lowest bits put in
+-- by a mask is the two joined. The rest is division with remainder.
 -- Assumes nothing.
-use Prim.Native.Nat.{ℕ, _+_, _-_, _*_, _/_, _%_, _^_, _<_, _≤_}
+use Prim.Native.Nat.{ℕ, _+_, _-_, _*_, _%_, _^_, _<_, _≤_}
 use mathlib.Core.Path.{_≡_}
 use native.Mathlib.Omega.{arith}
 use lib.Bits.{bitAnd, bitOr, and-mask, mask-lt, or-shifted}
@@ -15,7 +15,11 @@ pub shift-and-mask-join :
     (bits width word high low : ℕ) → high < 2 ^ bits → bits + width ≤ word
     → bitOr (high * 2 ^ width % 2 ^ word) (bitAnd low (2 ^ width - 1)) ≡ joined width high low
 shift-and-mask-join bits width word high low small fits =
-    rw (shl-exact {a = high} bits width word small fits, or-shifted high width (bitAnd low (2 ^ width - 1)) (mask-lt low width), and-mask low width)
+    rw (
+      shl-exact {a = high} bits width word small fits,
+      or-shifted high width (bitAnd low (2 ^ width - 1)) (mask-lt low width),
+      and-mask low width,
+    )
 
 -- Unpacking what was packed gives the same three numbers.
 pub unpacks-to-the-same-node : (n : Node) → Fitting n → nodeOf (wordOf n) ≡ n

@@ -1,9 +1,9 @@
--- What kind a number is, by the ranges over which code decides: 0; 1 and 2; 3 to 6, the pairs; 7 to 10, the loops; above.
--- Each is read off the table of kinds at the numbers of the range.
+-- What kind a number is, by the ranges over which code decides: 0; 1 and 2; 3 to 6, the pairs; 7 to 10, the loops;
+-- above. Each is read off the table of kinds at the numbers of the range.
 -- Assumes nothing.
 use Prim.Native.Nat.{ℕ, zero, suc, _+_, _-_, _≤_, _<_}
 use mathlib.Core.Bool.{Bool, true, false}
-use mathlib.Core.List.{List, [], _∷_}
+use mathlib.Core.List.{[], _∷_}
 use mathlib.Core.Path.{_≡_, refl}
 use native.Mathlib.Decide.{decLe}
 use native.Mathlib.Omega.{arith}
@@ -13,7 +13,7 @@ use Rattle.chart.specs.Chart.Order.{strict, seq, par}
 use Rattle.chart.specs.Chart.Loop.{each, head}
 use Rattle.node.specs.declared.Node.{Node}
 use Rattle.node.specs.Row.{children}
-use Rattle.node.specs.Kind.{Kind, kindOf, allKinds, Pair}
+use Rattle.node.specs.Kind.{kindOf, allKinds, Pair}
 use Rattle.node.specs.Kind.Pair.{inOrder, choice}
 use Rattle.node.specs.Kind.Kind.{nothing, action, pairs, loops, unknown}
 

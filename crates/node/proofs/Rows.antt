@@ -1,9 +1,9 @@
 -- Charts of a row of nodes: one more node adds one chart and changes none before it; there are as many charts as nodes.
 -- All by induction on the row, over any charts before it.
 -- Assumes nothing.
-use Prim.Native.Nat.{ℕ, _+_, _<_, _≤_}
-use mathlib.Core.List.{List, [], _∷_, _++_, append-assoc}
-use mathlib.Core.Path.{_≡_, refl, ap, _∙_}
+use Prim.Native.Nat.{ℕ, _+_, _<_}
+use mathlib.Core.List.{List, [], _∷_, _++_}
+use mathlib.Core.Path.{_≡_, refl, _∙_}
 use native.Mathlib.Omega.{arith}
 use lib.ListN.{length, getD, length-append, List·getD-append}
 use Rattle.chart.specs.Chart.{Chart, depth}
@@ -15,7 +15,8 @@ use Rattle.node.specs.Kind.Kind.{nothing, action, pairs, loops, unknown}
 use Rattle.node.specs.Row.{stands, standsAs, chartsAfter, charts, children, childrenAs, highest}
 
 chartsAfter-append :
-    (before : List Chart) (row more : List Node) → chartsAfter before (row ++ more) ≡ chartsAfter (chartsAfter before row) more
+    (before : List Chart) (row more : List Node)
+    → chartsAfter before (row ++ more) ≡ chartsAfter (chartsAfter before row) more
 chartsAfter-append before [] more = refl
 chartsAfter-append before (n ∷ row) more = chartsAfter-append (before ++ (stands before n ∷ [])) row more
 
@@ -24,10 +25,15 @@ pub charts-more : (row : List Node) (n : Node) → charts (row ++ (n ∷ [])) �
 unfolding charts
 charts-more row n = chartsAfter-append [] row (n ∷ [])
 
-length-chartsAfter : (before : List Chart) (row : List Node) → length (chartsAfter before row) ≡ length before + length row
+length-chartsAfter : (before : List Chart) (row : List Node)
+    → length (chartsAfter before row) ≡ length before + length row
 length-chartsAfter before [] = omega arith
 length-chartsAfter before (n ∷ row) =
-    omega (arith, length-chartsAfter (before ++ (stands before n ∷ [])) row, length-append before (stands before n ∷ []))
+    omega (
+      arith,
+      length-chartsAfter (before ++ (stands before n ∷ [])) row,
+      length-append before (stands before n ∷ []),
+    )
 
 -- As many charts as nodes.
 pub length-charts : (row : List Node) → length (charts row) ≡ length row
@@ -40,7 +46,8 @@ pub chartsAfter-keeps :
     → getD (chartsAfter before row) j empty ≡ getD before j empty
 chartsAfter-keeps before [] j h = refl
 chartsAfter-keeps before (n ∷ row) j h =
-    chartsAfter-keeps (before ++ (stands before n ∷ [])) row j (omega (arith, length-append before (stands before n ∷ [])))
+    chartsAfter-keeps (before ++ (stands before n ∷ [])) row j
+    (omega (arith, length-append before (stands before n ∷ [])))
     ∙ List·getD-append before (stands before n ∷ []) empty j h
 
 -- More nodes change no chart of those before them.

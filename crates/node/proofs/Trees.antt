@@ -1,10 +1,10 @@
--- A row in which each node but the last is a child exactly once, and each child is lower than its parent, is one tree: what each
--- node weighs adds up to what the whole chart weighs. With weight 1 that is the number of nodes.
--- The argument: a chart weighs what its node weighs and what its children weigh. Summed over the row, each chart but the
+-- A row in which each node but the last is a child exactly once, and each child is lower than its parent, is one
+-- tree: what each node weighs adds up to what the whole chart weighs. With weight 1 that is the number of nodes. The
+-- argument: a chart weighs what its node weighs and what its children weigh. Summed over the row, each chart but the
 -- last is counted once on the right, as a child, so that only the last is left over.
 -- Assumes nothing.
 use Prim.Native.Nat.{ℕ, zero, suc, _+_, _-_, _*_, _<_, _≤_}
-use mathlib.Core.Bool.{Bool, true, false, cond}
+use mathlib.Core.Bool.{cond}
 use mathlib.Core.List.{List, [], _∷_, _++_}
 use mathlib.Core.Path.{_≡_, refl, ap, sym, _∙_}
 use native.Mathlib.Decide.{ℕ-discrete}
@@ -86,10 +86,14 @@ module _ (m : ℕ → ℕ) where
   sumOf-by-times n [] h = sym (sumTo-none (λ j. 0 * m j) n (λ j l. zero-mul (m j)))
   sumOf-by-times n (k ∷ ks) (h, hs) =
       let split : (j : ℕ) → times j (k ∷ ks) * m j ≡ only k j + times j ks * m j
-               = λ j. add-mul (cond (eqb k j) 1 0) (times j ks) (m j) in
-      omega
-      (arith, sumTo-only k n h, sumOf-by-times n ks hs, sumTo-add (only k) (λ j. times j ks * m j) n,
-       sumTo-eq (λ j. times j (k ∷ ks) * m j) (λ j. only k j + times j ks * m j) n (λ j l. split j))
+      = λ j. add-mul (cond (eqb k j) 1 0) (times j ks) (m j) in
+      omega (
+        arith,
+        sumTo-only k n h,
+        sumOf-by-times n ks hs,
+        sumTo-add (only k) (λ j. times j ks * m j) n,
+        sumTo-eq (λ j. times j (k ∷ ks) * m j) (λ j. only k j + times j ks * m j) n (λ j l. split j),
+      )
 
   -- All children of a row, each weighed.
   abbrev sumOfChildren : List Node → ℕ
@@ -102,11 +106,14 @@ module _ (m : ℕ → ℕ) where
       → sumOfChildren row ≡ sumTo (λ j. uses row j * m j) n
   sumOfChildren-by-uses n [] h = sym (sumTo-none (λ j. 0 * m j) n (λ j l. zero-mul (m j)))
   sumOfChildren-by-uses n (x ∷ row) (h, hs) =
-      omega
-      (arith, sumOf-by-times n (children x) h, sumOfChildren-by-uses n row hs,
-       sumTo-add (λ j. times j (children x) * m j) (λ j. uses row j * m j) n,
-       sumTo-eq (λ j. uses (x ∷ row) j * m j) (λ j. times j (children x) * m j + uses row j * m j) n
-       (λ j l. add-mul (times j (children x)) (uses row j) (m j)))
+      omega (
+        arith,
+        sumOf-by-times n (children x) h,
+        sumOfChildren-by-uses n row hs,
+        sumTo-add (λ j. times j (children x) * m j) (λ j. uses row j * m j) n,
+        sumTo-eq (λ j. uses (x ∷ row) j * m j) (λ j. times j (children x) * m j + uses row j * m j) n
+            (λ j l. add-mul (times j (children x)) (uses row j) (m j)),
+      )
 
 pub below-more : (i n : ℕ) (ks : List ℕ) → i ≤ n → Below i ks → Below n ks
 below-more i n [] h b = tt
@@ -114,7 +121,8 @@ below-more i n (k ∷ ks) h (b, bs) = (omega arith, below-more i n ks h bs)
 
 -- No child of a row is its last node.
 lower-than-the-last :
-    (i last : ℕ) (row : List Node) → i + length row ≤ suc last → LowerFrom i row → Every (λ x. Below last (children x)) row
+    (i last : ℕ) (row : List Node) → i + length row ≤ suc last → LowerFrom i row
+    → Every (λ x. Below last (children x)) row
 lower-than-the-last i last [] h l = tt
 lower-than-the-last i last (x ∷ row) h (b, l) =
     (below-more i last (children x) (omega arith) b, lower-than-the-last (suc i) last row (omega arith) l)
@@ -147,12 +155,12 @@ module _ (weight : Chart → ℕ) (own : Node → ℕ) (weighs : Weighs weight o
       let all = chartsAfter more row in
       let long : length more ≡ suc (length before) = omega (arith, length-append before (stands before x ∷ [])) in
       let there : getD all i empty ≡ stands before x
-                = chartsAfter-keeps more row i (omega arith) ∙ getD-at before (stands before x) [] empty i (sym ei) in
+      = chartsAfter-keeps more row i (omega arith) ∙ getD-at before (stands before x) [] empty i (sym ei) in
       let here : at all i ≡ own x + sumOf (at before) (children x) = ap weight there ∙ weighs before x in
       let kept : (j : ℕ) → j < i → at before j ≡ at all j
-               = λ j l. ap weight (sym (chartsAfter-keeps before (x ∷ row) j (omega arith))) in
+      = λ j l. ap weight (sym (chartsAfter-keeps before (x ∷ row) j (omega arith))) in
       let below : sumOf (at before) (children x) ≡ sumOf (at all) (children x)
-                = sumOf-eq (at before) (at all) i (children x) low kept in
+      = sumOf-eq (at before) (at all) i (children x) low kept in
       omega (arith, charts-weigh more row (suc i) n (omega arith) (omega arith) lower)
 
   -- A tree weighs what its nodes weigh.
@@ -164,10 +172,12 @@ module _ (weight : Chart → ℕ) (own : Node → ℕ) (weighs : Weighs weight o
       let m = at (charts row) in
       let end : length row - 1 ≡ last = omega arith in
       let root : weight (chart row) ≡ m last = rw end in
-      omega
-      (arith, charts-weigh [] row 0 (suc last) refl (omega arith) lower,
-       sumOfChildren-by-uses m last row (lower-than-the-last 0 last row (omega arith) lower),
-       sumTo-eq (λ j. uses row j * m j) m last (λ j l. rw (once j l, one-mul (m j))))
+      omega (
+        arith,
+        charts-weigh [] row 0 (suc last) refl (omega arith) lower,
+        sumOfChildren-by-uses m last row (lower-than-the-last 0 last row (omega arith) lower),
+        sumTo-eq (λ j. uses row j * m j) m last (λ j l. rw (once j l, one-mul (m j))),
+      )
 
 -- A node weighs 1 and a chart the number of its nodes.
 size-as : (k : Kind) (before : List Chart) (n : Node)

@@ -1,9 +1,9 @@
--- A row of nodes and the charts that they stand for: what a card and a room have in common.
--- A row is read once from its first node to its last; a child is found among the charts of the nodes before its parent. This
--- is defined for every row, sound or not.
+-- A row of nodes and the charts that they stand for: what a card and a room have in common. A row is read once from
+-- its first node to its last; a child is found among the charts of the nodes before its parent. This is defined for
+-- every row, sound or not.
 -- Assumes nothing.
 use Prim.Native.Nat.{ℕ, _+_, _-_, max, _<_}
-use mathlib.Core.Bool.{Bool, true, false, cond}
+use mathlib.Core.Bool.{cond}
 use mathlib.Core.List.{List, [], _∷_, _++_}
 use lib.Dec.{eqb}
 use lib.ListN.{length, getD}

@@ -13,28 +13,45 @@ pub struct Node {
 impl Node {
     // Kinds.
     pub const EMPTY: u32 = 0;
+
     pub const EMISSION: u32 = 1;
+
     pub const RECEPTION: u32 = 2;
+
     pub const STRICT: u32 = 3;
+
     pub const SEQ: u32 = 4;
+
     pub const PAR: u32 = 5;
+
     pub const ALT: u32 = 6;
+
     pub const STRICT_LOOP: u32 = 7;
+
     pub const HEAD_LOOP: u32 = 8;
+
     pub const WEAK_LOOP: u32 = 9;
+
     pub const PAR_LOOP: u32 = 10;
 
     // Limits.
     pub const LIFELINES: u32 = 16;
+
     pub const MESSAGES: u32 = 64;
+
     pub const DEPTH: u32 = 16;
+
     pub const NODES: usize = 255;
+
     pub const NODE_BYTES: usize = 4;
+
     pub const CARD_BYTES: usize = 4096;
+
     pub const PLACES: usize = 16384;
 
     // A place is one number: the kind in 4 bits above a and b in 14 bits each. What is too wide loses its high bits.
     const KIND_MASK: u32 = 0xF;
+
     const NUMBER_MASK: u32 = 0x3FFF;
 
     pub fn pack(self) -> u32

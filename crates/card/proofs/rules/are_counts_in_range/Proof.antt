@@ -1,51 +1,37 @@
-use Rattle.card.proofs.Tests.{stops, goes-on}
+-- `rules::are_counts_in_range` meets its contract: the definition's tests, one after the other. Assumes nothing.
 use borrow.Author.Needs.{needs}
+use Rattle.card.proofs.Tests.{stops, goes-on}
 use Rattle.card.proofs.rules.are_counts_in_range.Statement.{statement}
 use Rattle.card.proofs.rules.are_counts_in_range.Tie as tie
-use Rattle.card.proofs.rules.are_counts_in_range.Reads as reads
-use Rattle.card.proofs.rules.are_counts_in_range.Lts as lts
-use Rattle.card.proofs.parts.lifelines.Reads as lifelines-reads
-use Rattle.card.proofs.parts.messages.Reads as messages-reads
-use Rattle.card.proofs.rules.is_within.Reads as is-within-reads
 
--- src/rules.rt:48:22
 lifelines-requires : tie.Need-lifelines-requires
 lifelines-requires c κs = search needs
 
--- src/rules.rt:48:22
 cast-is-within : tie.Need-cast-is-within
 cast-is-within c = search needs
 
--- src/rules.rt:48:55
 cast-is-within-2 : tie.Need-cast-is-within-2
 cast-is-within-2 c = search needs
 
--- src/rules.rt:48:9
 is-within-requires : tie.Need-is-within-requires
 is-within-requires c κs = search needs
 
--- src/rules.rt:49:9
 returns : tie.Need-returns
 returns c =
     rw (← c .before .before .lifelines .ensures) (stops _ (c .before .is-within .ensures) (c .if1 .taken))
 
--- src/rules.rt:51:18
 messages-requires : tie.Need-messages-requires
 messages-requires c κs = search needs
 
--- src/rules.rt:51:18
 cast-is-within-3 : tie.Need-cast-is-within-3
 cast-is-within-3 c = search needs
 
--- src/rules.rt:51:50
 cast-is-within-4 : tie.Need-cast-is-within-4
 cast-is-within-4 c = search needs
 
--- src/rules.rt:51:5
 is-within-requires-2 : tie.Need-is-within-requires-2
 is-within-requires-2 c κs = search needs
 
--- src/rules.rt:45:1
 returns-2 : tie.Need-returns-2
 returns-2 c =
     rw (← c .before .before .before .before .lifelines .ensures, ← c .before .messages .ensures)

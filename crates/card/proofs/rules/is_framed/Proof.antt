@@ -1,39 +1,32 @@
+-- `rules::is_framed` meets its contract: the definition's tests, one after the other. Assumes nothing.
 use borrow.Author.Tests.{ne-eqb, eq-eqb}
-use Rattle.card.proofs.Tests.{stops, goes-on}
 use borrow.Author.Needs.{needs}
+use Rattle.card.proofs.Tests.{stops, goes-on}
 use Rattle.card.proofs.rules.is_framed.Statement.{statement}
 use Rattle.card.proofs.rules.is_framed.Tie as tie
-use Rattle.card.proofs.rules.is_framed.Reads as reads
-use Rattle.card.proofs.rules.is_framed.Lts as lts
-use Rattle.card.proofs.parts.trailer.Reads as trailer-reads
-use Rattle.card.proofs.rules.is_within.Reads as is-within-reads
 
--- src/rules.rt:21:9
 is-within-requires : tie.Need-is-within-requires
 is-within-requires c κs = search needs
 
--- src/rules.rt:22:9
 returns : tie.Need-returns
 returns c =
     stops _ (c .before .is-within .ensures) (c .if1 .taken)
 
--- src/rules.rt:24:8
 trailer-requires : tie.Need-trailer-requires
 trailer-requires c κs = search needs
 
--- src/rules.rt:25:9
 returns-2 : tie.Need-returns-2
 returns-2 c =
-    goes-on _ (c .before .before .before .is-within .ensures) (c .before .before .if1 .left) (rw (← c .before .trailer .ensures, ne-eqb _ _ (c .if2 .taken)))
+    goes-on _ (c .before .before .before .is-within .ensures) (c .before .before .if1 .left)
+    (rw (← c .before .trailer .ensures, ne-eqb _ _ (c .if2 .taken)))
 
--- src/rules.rt:27:5
 trailer-requires-2 : tie.Need-trailer-requires-2
 trailer-requires-2 c κs = search needs
 
--- src/rules.rt:18:1
 returns-3 : tie.Need-returns-3
 returns-3 c =
-    goes-on _ (c .before .before .before .before .is-within .ensures) (c .before .before .before .if1 .left) (rw (← c .before .before .trailer .ensures, ← c .trailer2 .ensures, eq-eqb _ _ (c .before .if2 .left)))
+    goes-on _ (c .before .before .before .before .is-within .ensures) (c .before .before .before .if1 .left)
+    (rw (← c .before .before .trailer .ensures, ← c .trailer2 .ensures, eq-eqb _ _ (c .before .if2 .left)))
 
 pub is-framed-spec : {M : Type 1} → statement M
 is-framed-spec =

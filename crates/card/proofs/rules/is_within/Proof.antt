@@ -1,15 +1,12 @@
+-- `rules::is_within` meets its contract: the two tests, one after the other. Assumes nothing.
 use borrow.Author.Tests.{lt-leb, le-leb}
 use Rattle.card.proofs.rules.is_within.Statement.{statement}
 use Rattle.card.proofs.rules.is_within.Tie as tie
-use Rattle.card.proofs.rules.is_within.Reads as reads
-use Rattle.card.proofs.rules.is_within.Lts as lts
 
--- src/rules.rt:12:9
 returns : tie.Need-returns
 returns c =
     rw (lt-leb _ _ (c .if1 .taken))
 
--- src/rules.rt:8:1
 returns-2 : tie.Need-returns-2
 returns-2 c =
     rw (le-leb _ _ (c .if1 .left))

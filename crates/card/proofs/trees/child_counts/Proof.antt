@@ -1,18 +1,14 @@
-use borrow.Author.Needs.{needs}
+-- `trees::child_counts` meets its contract: the children of the first i nodes are counted. Assumes nothing.
 use Prim.Native.Nat.{_≤_, _-_}
-use mathlib.Core.Path.{_≡_, sym, _∙_, refl}
+use mathlib.Core.Path.{_≡_}
 use native.Mathlib.Omega.{arith}
+use borrow.Author.Needs.{needs}
 use Rattle.node.specs.Row.{children, Below}
 use Rattle.node.proofs.Trees.{below-more}
 use Rattle.card.specs.Nodes.{countOf, nodeAt}
 use Rattle.card.proofs.Counts.{Counted, none-counted, counts-are-small, one-more-counted}
 use Rattle.card.proofs.trees.child_counts.Statement.{statement}
 use Rattle.card.proofs.trees.child_counts.Tie as tie
-use Rattle.card.proofs.trees.child_counts.Reads as reads
-use Rattle.card.proofs.trees.child_counts.Lts as lts
-use Rattle.card.proofs.nodes.count.Reads as count-reads
-use Rattle.card.proofs.nodes.node_at.Reads as node-at-reads
-use Rattle.card.proofs.trees.count_children.Reads as count-children-reads
 
 abbrev Inv-loop : tie.InvT-loop
 Inv-loop nodes counts₀ count i₀ counts i = (i ≤ count) × Counted nodes i counts
@@ -20,46 +16,46 @@ Inv-loop nodes counts₀ count i₀ counts i = (i ≤ count) × Counted nodes i 
 abbrev μ-loop : tie.MeasureT-loop
 μ-loop nodes counts₀ count i₀ counts i = count - i
 
--- src/trees.rt:46:9
+-- The children of node i have a place in the counts.
+low : (c : tie.After-node-at Inv-loop μ-loop) → Below 255 (children (c .node-at .result))
+low c =
+    let s = c .before .before .before .before .before .before in
+    let i = c .before .before .before .loop .i in
+    rw (c .node-at .ensures)
+    (below-more i 255 (children (nodeAt (s .args .nodes .now) i)) (omega (arith, s .pre .few))
+    (s .pre .lower i (omega arith)))
+
 count-requires : tie.Need-count-requires Inv-loop μ-loop
 count-requires c κs = search needs
 
--- src/trees.rt:48:5
 loop-holds : tie.Need-loop-holds Inv-loop μ-loop
 loop-holds c =
     (search needs, none-counted (c .before .before .args .nodes .now))
 
--- src/trees.rt:49:37
 node-at-requires : tie.Need-node-at-requires Inv-loop μ-loop
 node-at-requires c κs = search needs
 
--- src/trees.rt:49:9
 count-children-requires : tie.Need-count-children-requires Inv-loop μ-loop
 count-children-requires c κs =
-    let nodes = c .before .before .before .before .before .before .args .nodes .now in
-    let i = c .before .before .before .loop .i in
-    (rw (c .node-at .ensures) (below-more i 255 (children (nodeAt nodes i)) (omega (arith, c .before .before .before .before .before .before .pre .few)) (c .before .before .before .before .before .before .pre .lower i (omega arith))),
-     counts-are-small nodes i (c .before .before .before .loop .counts) (omega (arith, c .before .before .before .before .before .before .pre .few)) (c .before .before .before .loop .inv .1))
+    let s = c .before .before .before .before .before .before in
+    let at = c .before .before .before .loop in
+    (low c, counts-are-small (s .args .nodes .now) (at .i) (at .counts) (omega (arith, s .pre .few)) (at .inv .1))
 
--- src/trees.rt:50:9
 add-i : tie.Need-add-i Inv-loop μ-loop
 add-i c = search needs
 
--- src/trees.rt:48:5
 loop-less : tie.Need-loop-less Inv-loop μ-loop
 loop-less c = search needs
 
--- src/trees.rt:48:5
 loop-again : tie.Need-loop-again Inv-loop μ-loop
 loop-again c =
     let nodes = c .before .before .before .before .before .before .before .args .nodes .now in
-    let i = c .before .before .before .before .loop .i in
-    (search needs,
-     one-more-counted nodes i (c .before .before .before .before .loop .counts) _ _ (c .before .node-at .ensures) (c .count-children .ensures)
-     (rw (c .before .node-at .ensures) (below-more i 255 (children (nodeAt nodes i)) (omega (arith, c .before .before .before .before .before .before .before .pre .few)) (c .before .before .before .before .before .before .before .pre .lower i (omega arith))))
-     (c .before .before .before .before .loop .inv .1))
+    let at = c .before .before .before .before .loop in (
+      search needs,
+      one-more-counted nodes (at .i) (at .counts) _ _ (c .before .node-at .ensures) (c .count-children .ensures)
+          (low (c .before)) (at .inv .1),
+    )
 
--- src/trees.rt:41:1
 returns : tie.Need-returns Inv-loop μ-loop
 returns c =
     let all : c .before .loop .i ≡ countOf (c .before .before .before .before .args .nodes .now) = omega arith in

@@ -3,8 +3,6 @@ use Prim.Native.Nat.{_/_, _^_}
 use lib.Bits.{and-mask}
 use Rattle.node.proofs.Node.unpack.Statement.{statement}
 use Rattle.node.proofs.Node.unpack.Tie as tie
-use Rattle.node.proofs.Node.unpack.Reads as reads
-use Rattle.node.proofs.Node.unpack.Lts as lts
 
 returns : tie.Need-returns
 returns c = rw (and-mask (c .args .word / 2 ^ 14) 14, and-mask (c .args .word) 14)
