@@ -2,7 +2,6 @@
 -- answer; what the passes over the nodes require follows from the rules passed. Assumes nothing.
 use mathlib.Core.Path.{_≡_, sym, _∙_}
 use native.Mathlib.Omega.{arith}
-use borrow.Author.Needs.{needs}
 use Rattle.card.specs.Faultless.{Faultless}
 use Rattle.card.proofs.Tests.{failed, passed}
 use Rattle.card.proofs.Relied.{few-nodes, few-lifelines, back→, faultless, found-of-the-card}
@@ -45,10 +44,10 @@ nodes-faultless c =
     (faults-found (c .before .before) ∙ c .enum-told .given .1))
 
 is-framed-requires : tie.Need-is-framed-requires
-is-framed-requires c κs = search needs
+is-framed-requires c κs = tt
 
 refused-requires : tie.Need-refused-requires
-refused-requires c κs = search needs
+refused-requires c κs = tt
 
 returns : tie.Need-returns
 returns c =
@@ -56,10 +55,10 @@ returns c =
     (failed (c .before .before .is-framed .ensures) (c .before .if1 .taken)))
 
 is-back-in-rule-requires : tie.Need-is-back-in-rule-requires
-is-back-in-rule-requires c κs = search needs
+is-back-in-rule-requires c κs = tt
 
 refused-requires-2 : tie.Need-refused-requires-2
-refused-requires-2 c κs = search needs
+refused-requires-2 c κs = tt
 
 returns-2 : tie.Need-returns-2
 returns-2 c =
@@ -70,10 +69,10 @@ returns-2 c =
     (failed (c .before .before .is-back-in-rule .ensures) (c .before .if2 .taken)))
 
 are-counts-in-range-requires : tie.Need-are-counts-in-range-requires
-are-counts-in-range-requires c κs = search needs
+are-counts-in-range-requires c κs = tt
 
 refused-requires-3 : tie.Need-refused-requires-3
-refused-requires-3 c κs = search needs
+refused-requires-3 c κs = tt
 
 returns-3 : tie.Need-returns-3
 returns-3 c =
@@ -86,13 +85,13 @@ returns-3 c =
     (failed (c .before .before .are-counts-in-range .ensures) (c .before .if3 .taken)))
 
 nodes-requires : tie.Need-nodes-requires
-nodes-requires c κs = search needs
+nodes-requires c κs = tt
 
 lifelines-requires : tie.Need-lifelines-requires
-lifelines-requires c κs = search needs
+lifelines-requires c κs = tt
 
 messages-requires : tie.Need-messages-requires
-messages-requires c κs = search needs
+messages-requires c κs = tt
 
 lowest-faulty-requires : tie.Need-lowest-faulty-requires
 lowest-faulty-requires c κs =
@@ -100,10 +99,10 @@ lowest-faulty-requires c κs =
     rw (at .nodes .ensures) (few-nodes _ (passed-so-far at .two))
 
 enum-known-fault : tie.Need-enum-known-fault
-enum-known-fault c = search needs
+enum-known-fault c = omega arith
 
 refused-requires-4 : tie.Need-refused-requires-4
-refused-requires-4 c κs = search needs
+refused-requires-4 c κs = tt
 
 returns-4 : tie.Need-returns-4
 returns-4 c =
@@ -113,17 +112,17 @@ returns-4 c =
     (faults-found at ∙ c .before .before .fault .given .1))
 
 enum-told : tie.Need-enum-told
-enum-told c = search needs
+enum-told c = omega arith
 
 lowest-misused-requires : tie.Need-lowest-misused-requires
 lowest-misused-requires c κs =
     nodes-faultless c
 
 enum-known-misuse : tie.Need-enum-known-misuse
-enum-known-misuse c = search needs
+enum-known-misuse c = omega arith
 
 refused-requires-5 : tie.Need-refused-requires-5
-refused-requires-5 c κs = search needs
+refused-requires-5 c κs = tt
 
 returns-5 : tie.Need-returns-5
 returns-5 c =
@@ -137,14 +136,14 @@ returns-5 c =
     (faults-found at ∙ told .enum-told .given .1) (sym misuse ∙ c .before .before .misuse .given .1))
 
 enum-told-2 : tie.Need-enum-told-2
-enum-told-2 c = search needs
+enum-told-2 c = omega arith
 
 depth-requires : tie.Need-depth-requires
 depth-requires c κs =
     nodes-faultless (c .before .before .before)
 
 refused-requires-6 : tie.Need-refused-requires-6
-refused-requires-6 c κs = search needs
+refused-requires-6 c κs = tt
 
 returns-6 : tie.Need-returns-6
 returns-6 c =
@@ -159,7 +158,7 @@ returns-6 c =
     (sym misuse ∙ c .before .before .before .enum-told2 .given .1) (rw deep at (c .before .if4 .taken)))
 
 count-requires : tie.Need-count-requires
-count-requires c κs = search needs
+count-requires c κs = tt
 
 cast-t13 : tie.Need-cast-t13
 cast-t13 c =

@@ -3,39 +3,38 @@
 use Prim.Native.Nat.{_-_}
 use mathlib.Core.Path.{_≡_}
 use native.Mathlib.Omega.{arith}
-use borrow.Author.Needs.{needs}
 use borrow.Author.Tests.{eq-eqb, ne-eqb}
 use Rattle.card.specs.Parts.{firstAt}
 use Rattle.card.proofs.note.Statement.{statement}
 use Rattle.card.proofs.note.Tie as tie
 
 check-requires : tie.Need-check-requires
-check-requires c κs = search needs
+check-requires c κs = tt
 
 sub-result : tie.Need-sub-result
-sub-result c = search needs
+sub-result c = omega arith
 
 part-result-start : tie.Need-part-result-start
-part-result-start c = search needs
+part-result-start c = omega arith
 
 part-result-end : tie.Need-part-result-end
-part-result-end c = search needs
+part-result-end c = omega arith
 
 returns : tie.Need-returns
 returns c =
     rw (← c .before .before .check .ensures, ne-eqb _ _ (c .before .if1 .taken))
 
 first-at-requires : tie.Need-first-at-requires
-first-at-requires c κs = search needs
+first-at-requires c κs = tt
 
 sub-result-2 : tie.Need-sub-result-2
-sub-result-2 c = search needs
+sub-result-2 c = omega arith
 
 part-result-start-2 : tie.Need-part-result-start-2
-part-result-start-2 c = search needs
+part-result-start-2 c = omega arith
 
 part-result-end-2 : tie.Need-part-result-end-2
-part-result-end-2 c = search needs
+part-result-end-2 c = omega arith
 
 returns-2 : tie.Need-returns-2
 returns-2 c =

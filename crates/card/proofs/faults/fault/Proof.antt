@@ -1,7 +1,7 @@
 -- `faults::fault` meets its contract: what was read of the node is the definition's node. Assumes nothing.
+use native.Mathlib.Omega.{arith}
 use mathlib.Core.Path.{_≡_, _∙_, sym, ap}
 use mathlib.Core.Bool.{cond}
-use borrow.Author.Needs.{needs}
 use Rattle.card.specs.Findings.{faultOf}
 use Rattle.card.proofs.NodeFaults.{fault-as-read}
 use Rattle.card.proofs.faults.fault.Statement.{statement}
@@ -19,16 +19,16 @@ as-read c =
     (c .before .before .node-at .ensures) (c .before .spare-at .ensures) (c .is-in-order .ensures)
 
 node-at-requires : tie.Need-node-at-requires
-node-at-requires c κs = search needs
+node-at-requires c κs = c .before .pre .0
 
 spare-at-requires : tie.Need-spare-at-requires
-spare-at-requires c κs = search needs
+spare-at-requires c κs = c .before .before .pre .0
 
 cast-is-in-order : tie.Need-cast-is-in-order
-cast-is-in-order c = search needs
+cast-is-in-order c = omega arith
 
 is-in-order-requires : tie.Need-is-in-order-requires
-is-in-order-requires c κs = search needs
+is-in-order-requires c κs = tt
 
 returns : tie.Need-returns
 returns c =

@@ -1,9 +1,8 @@
 -- `faults::lowest_faulty` meets its contract: every node before i is fine; the loop stops at the first that
 -- is not. Assumes nothing.
 use Prim.Native.Nat.{_≤_, _-_}
-use mathlib.Core.Path.{_≡_, sym, _∙_}
+use mathlib.Core.Path.{_≡_, refl, sym, _∙_}
 use native.Mathlib.Omega.{arith}
-use borrow.Author.Needs.{needs}
 use Rattle.card.specs.declared.Finding.the-variants.{Fine}
 use Rattle.card.specs.Nodes.{countOf}
 use Rattle.card.specs.Findings.{faultOf, lowest}
@@ -18,16 +17,16 @@ abbrev μ-loop : tie.MeasureT-loop
 μ-loop nodes lifelines messages count i₀ i = count - i
 
 count-requires : tie.Need-count-requires Inv-loop μ-loop
-count-requires c κs = search needs
+count-requires c κs = tt
 
 loop-holds : tie.Need-loop-holds Inv-loop μ-loop
-loop-holds c = search needs
+loop-holds c = (omega arith, refl)
 
 fault-requires : tie.Need-fault-requires Inv-loop μ-loop
-fault-requires c κs = search needs
+fault-requires c κs = (omega arith, omega arith)
 
 cast-t8 : tie.Need-cast-t8 Inv-loop μ-loop
-cast-t8 c = search needs
+cast-t8 c = omega arith
 
 returns : tie.Need-returns Inv-loop μ-loop
 returns c =
@@ -40,17 +39,17 @@ returns c =
     (λ e. c .if1 .taken (c .before .fault .ensures ∙ e))))
 
 add-i : tie.Need-add-i Inv-loop μ-loop
-add-i c = search needs
+add-i c = omega arith
 
 loop-less : tie.Need-loop-less Inv-loop μ-loop
-loop-less c = search needs
+loop-less c = omega arith
 
 loop-again : tie.Need-loop-again Inv-loop μ-loop
 loop-again c =
     let s = c .before .before .before .before .before .before .args in
     let at = c .before .before .before .loop in
     let f = faultOf (s .lifelines) (s .messages) (s .nodes .now) in
-    (search needs, fine-so-far f (at .i) (at .inv .1) (sym (c .before .fault .ensures) ∙ c .if1 .left))
+    (omega arith, fine-so-far f (at .i) (at .inv .1) (sym (c .before .fault .ensures) ∙ c .if1 .left))
 
 returns-2 : tie.Need-returns-2 Inv-loop μ-loop
 returns-2 c =

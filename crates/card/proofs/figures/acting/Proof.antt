@@ -4,7 +4,6 @@ use Prim.Native.Nat.{_≤_, _-_}
 use mathlib.Core.Path.{_≡_, sym, _∙_, ap}
 use native.Mathlib.Omega.{arith}
 use lib.Count.{ones}
-use borrow.Author.Needs.{needs}
 use Rattle.card.specs.Nodes.{countOf, rowTo}
 use Rattle.card.specs.Figures.{acts}
 use Rattle.card.specs.Counting.{bitsOf}
@@ -19,14 +18,14 @@ abbrev μ-loop : tie.MeasureT-loop
 μ-loop nodes count set₀ i₀ set i = count - i
 
 count-requires : tie.Need-count-requires Inv-loop μ-loop
-count-requires c κs = search needs
+count-requires c κs = tt
 
 loop-holds : tie.Need-loop-holds Inv-loop μ-loop
 loop-holds c =
-    (search needs, sym (no-actors-yet (c .before .before .args .nodes .now)))
+    (omega arith, sym (no-actors-yet (c .before .before .args .nodes .now)))
 
 node-at-requires : tie.Need-node-at-requires Inv-loop μ-loop
-node-at-requires c κs = search needs
+node-at-requires c κs = omega arith
 
 actor-requires : tie.Need-actor-requires Inv-loop μ-loop
 actor-requires c κs =
@@ -34,16 +33,16 @@ actor-requires c κs =
     rw (c .node-at .ensures) (λ d h. s .pre .held (c .before .before .loop .i) d (omega arith) h)
 
 add-i : tie.Need-add-i Inv-loop μ-loop
-add-i c = search needs
+add-i c = omega arith
 
 loop-less : tie.Need-loop-less Inv-loop μ-loop
-loop-less c = search needs
+loop-less c = omega arith
 
 loop-again : tie.Need-loop-again Inv-loop μ-loop
 loop-again c =
     let s = c .before .before .before .before .before .before in
     let at = c .before .before .before .loop in (
-      search needs,
+      omega arith,
       one-more-acts (s .args .nodes .now) (at .i) (at .set) _ _ (c .before .node-at .ensures) (c .actor .ensures)
           (at .inv .1),
     )

@@ -2,7 +2,6 @@
 use Prim.Native.Nat.{_≤_, _-_}
 use mathlib.Core.Path.{_≡_}
 use native.Mathlib.Omega.{arith}
-use borrow.Author.Needs.{needs}
 use Rattle.node.specs.Row.{children}
 use Rattle.node.proofs.Trees.{below-more}
 use Rattle.card.specs.Nodes.{countOf, nodeAt}
@@ -17,14 +16,14 @@ abbrev μ-loop : tie.MeasureT-loop
 μ-loop nodes depths₀ count i₀ depths i = count - i
 
 count-requires : tie.Need-count-requires Inv-loop μ-loop
-count-requires c κs = search needs
+count-requires c κs = tt
 
 loop-holds : tie.Need-loop-holds Inv-loop μ-loop
 loop-holds c =
-    (search needs, none-known (c .before .before .args .nodes .now))
+    (omega arith, none-known (c .before .before .args .nodes .now))
 
 node-at-requires : tie.Need-node-at-requires Inv-loop μ-loop
-node-at-requires c κs = search needs
+node-at-requires c κs = omega arith
 
 depth-over-requires : tie.Need-depth-over-requires Inv-loop μ-loop
 depth-over-requires c κs =
@@ -41,17 +40,17 @@ array-write-depths c =
     omega (arith, c .before .before .before .before .before .before .before .pre .few)
 
 add-i : tie.Need-add-i Inv-loop μ-loop
-add-i c = search needs
+add-i c = omega arith
 
 loop-less : tie.Need-loop-less Inv-loop μ-loop
-loop-less c = search needs
+loop-less c = omega arith
 
 loop-again : tie.Need-loop-again Inv-loop μ-loop
 loop-again c =
     let s = c .before .before .before .before .before .before .before in
     let at = c .before .before .before .before .loop in
     let deep = rw (c .before .node-at .ensures) at (c .depth-over .ensures) in (
-      search needs,
+      omega arith,
       one-more-known (s .args .nodes .now) (at .i) (at .depths) _ deep (s .pre .lower (at .i) (omega arith))
           (omega (arith, s .pre .few)) (at .inv .1),
     )

@@ -1,17 +1,16 @@
 -- `figures::depth_over` meets its contract: each arm of the decision knows the children. Assumes nothing.
 use mathlib.Core.List.{[], _∷_}
 use native.Mathlib.Omega.{arith}
-use borrow.Author.Needs.{needs}
 use Rattle.node.specs.Row.{Below}
 use Rattle.node.proofs.Ranges.{children-of-a-leaf, children-of-a-pair, children-of-a-loop, children-of-the-unknown}
 use Rattle.card.proofs.figures.depth_over.Statement.{statement}
 use Rattle.card.proofs.figures.depth_over.Tie as tie
 
 cast-a : tie.Need-cast-a
-cast-a c = search needs
+cast-a c = omega arith
 
 cast-b : tie.Need-cast-b
-cast-b c = search needs
+cast-b c = omega arith
 
 element-copy-out-larger : tie.Need-element-copy-out-larger
 element-copy-out-larger c =
@@ -28,7 +27,7 @@ element-copy-out-larger-2 c =
     low .1 .0
 
 larger-requires : tie.Need-larger-requires
-larger-requires c κs = search needs
+larger-requires c κs = tt
 
 add-result : tie.Need-add-result
 add-result c =

@@ -1,22 +1,22 @@
 -- `parts::nodes` meets its contract: the part between the first node and the trailer. Assumes nothing.
-use borrow.Author.Needs.{needs}
+use native.Mathlib.Omega.{arith}
 use Rattle.card.proofs.parts.nodes.Statement.{statement}
 use Rattle.card.proofs.parts.nodes.Tie as tie
 
 first-at-requires : tie.Need-first-at-requires
-first-at-requires c κs = search needs
+first-at-requires c κs = tt
 
 trailer-at-requires : tie.Need-trailer-at-requires
-trailer-at-requires c κs = search needs
+trailer-at-requires c κs = tt
 
 sub-result : tie.Need-sub-result
-sub-result c = search needs
+sub-result c = omega arith
 
 part-result-start : tie.Need-part-result-start
-part-result-start c = search needs
+part-result-start c = omega arith
 
 part-result-end : tie.Need-part-result-end
-part-result-end c = search needs
+part-result-end c = omega arith
 
 returns : tie.Need-returns
 returns c =

@@ -1,6 +1,6 @@
 -- `parts::trailer` meets its contract: the byte, or 0, by the test that led to each return. Assumes nothing.
+use native.Mathlib.Omega.{arith}
 use mathlib.Core.Path.{_∙_, sym}
-use borrow.Author.Needs.{needs}
 use Rattle.card.proofs.Trailers.{no-trailer, trailer-there}
 use Rattle.card.proofs.parts.trailer.Statement.{statement}
 use Rattle.card.proofs.parts.trailer.Tie as tie
@@ -10,13 +10,13 @@ returns c =
     sym (no-trailer _ _ (c .if1 .taken))
 
 add-wide : tie.Need-add-wide
-add-wide c = search needs
+add-wide c = omega arith
 
 shared-slice-read-wide : tie.Need-shared-slice-read-wide
-shared-slice-read-wide c = search needs
+shared-slice-read-wide c = omega arith
 
 wide-requires : tie.Need-wide-requires
-wide-requires c κs = search needs
+wide-requires c κs = tt
 
 returns-2 : tie.Need-returns-2
 returns-2 c =

@@ -1,36 +1,36 @@
 -- `rules::are_counts_in_range` meets its contract: the definition's tests, one after the other. Assumes nothing.
-use borrow.Author.Needs.{needs}
+use native.Mathlib.Omega.{arith}
 use Rattle.card.proofs.Tests.{stops, goes-on}
 use Rattle.card.proofs.rules.are_counts_in_range.Statement.{statement}
 use Rattle.card.proofs.rules.are_counts_in_range.Tie as tie
 
 lifelines-requires : tie.Need-lifelines-requires
-lifelines-requires c κs = search needs
+lifelines-requires c κs = tt
 
 cast-is-within : tie.Need-cast-is-within
-cast-is-within c = search needs
+cast-is-within c = omega arith
 
 cast-is-within-2 : tie.Need-cast-is-within-2
-cast-is-within-2 c = search needs
+cast-is-within-2 c = omega arith
 
 is-within-requires : tie.Need-is-within-requires
-is-within-requires c κs = search needs
+is-within-requires c κs = tt
 
 returns : tie.Need-returns
 returns c =
     rw (← c .before .before .lifelines .ensures) (stops _ (c .before .is-within .ensures) (c .if1 .taken))
 
 messages-requires : tie.Need-messages-requires
-messages-requires c κs = search needs
+messages-requires c κs = tt
 
 cast-is-within-3 : tie.Need-cast-is-within-3
-cast-is-within-3 c = search needs
+cast-is-within-3 c = omega arith
 
 cast-is-within-4 : tie.Need-cast-is-within-4
-cast-is-within-4 c = search needs
+cast-is-within-4 c = omega arith
 
 is-within-requires-2 : tie.Need-is-within-requires-2
-is-within-requires-2 c κs = search needs
+is-within-requires-2 c κs = tt
 
 returns-2 : tie.Need-returns-2
 returns-2 c =

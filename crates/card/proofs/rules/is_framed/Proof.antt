@@ -1,19 +1,19 @@
 -- `rules::is_framed` meets its contract: the definition's tests, one after the other. Assumes nothing.
+use native.Mathlib.Omega.{arith}
 use borrow.Author.Tests.{ne-eqb, eq-eqb}
-use borrow.Author.Needs.{needs}
 use Rattle.card.proofs.Tests.{stops, goes-on}
 use Rattle.card.proofs.rules.is_framed.Statement.{statement}
 use Rattle.card.proofs.rules.is_framed.Tie as tie
 
 is-within-requires : tie.Need-is-within-requires
-is-within-requires c κs = search needs
+is-within-requires c κs = tt
 
 returns : tie.Need-returns
 returns c =
     stops _ (c .before .is-within .ensures) (c .if1 .taken)
 
 trailer-requires : tie.Need-trailer-requires
-trailer-requires c κs = search needs
+trailer-requires c κs = omega arith
 
 returns-2 : tie.Need-returns-2
 returns-2 c =
@@ -21,7 +21,7 @@ returns-2 c =
     (rw (← c .before .trailer .ensures, ne-eqb _ _ (c .if2 .taken)))
 
 trailer-requires-2 : tie.Need-trailer-requires-2
-trailer-requires-2 c κs = search needs
+trailer-requires-2 c κs = omega arith
 
 returns-3 : tie.Need-returns-3
 returns-3 c =

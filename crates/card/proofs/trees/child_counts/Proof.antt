@@ -2,7 +2,6 @@
 use Prim.Native.Nat.{_≤_, _-_}
 use mathlib.Core.Path.{_≡_}
 use native.Mathlib.Omega.{arith}
-use borrow.Author.Needs.{needs}
 use Rattle.node.specs.Row.{children, Below}
 use Rattle.node.proofs.Trees.{below-more}
 use Rattle.card.specs.Nodes.{countOf, nodeAt}
@@ -26,14 +25,14 @@ low c =
     (s .pre .lower i (omega arith)))
 
 count-requires : tie.Need-count-requires Inv-loop μ-loop
-count-requires c κs = search needs
+count-requires c κs = tt
 
 loop-holds : tie.Need-loop-holds Inv-loop μ-loop
 loop-holds c =
-    (search needs, none-counted (c .before .before .args .nodes .now))
+    (omega arith, none-counted (c .before .before .args .nodes .now))
 
 node-at-requires : tie.Need-node-at-requires Inv-loop μ-loop
-node-at-requires c κs = search needs
+node-at-requires c κs = omega arith
 
 count-children-requires : tie.Need-count-children-requires Inv-loop μ-loop
 count-children-requires c κs =
@@ -42,16 +41,16 @@ count-children-requires c κs =
     (low c, counts-are-small (s .args .nodes .now) (at .i) (at .counts) (omega (arith, s .pre .few)) (at .inv .1))
 
 add-i : tie.Need-add-i Inv-loop μ-loop
-add-i c = search needs
+add-i c = omega arith
 
 loop-less : tie.Need-loop-less Inv-loop μ-loop
-loop-less c = search needs
+loop-less c = omega arith
 
 loop-again : tie.Need-loop-again Inv-loop μ-loop
 loop-again c =
     let nodes = c .before .before .before .before .before .before .before .args .nodes .now in
     let at = c .before .before .before .before .loop in (
-      search needs,
+      omega arith,
       one-more-counted nodes (at .i) (at .counts) _ _ (c .before .node-at .ensures) (c .count-children .ensures)
           (low (c .before)) (at .inv .1),
     )

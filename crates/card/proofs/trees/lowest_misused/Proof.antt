@@ -1,10 +1,9 @@
 -- `trees::lowest_misused` meets its contract: every node before j is a child once; the loop stops at the first
 -- that is not. Assumes nothing.
 use Prim.Native.Nat.{_≤_, _-_}
-use mathlib.Core.Path.{_≡_, sym, _∙_, ap}
+use mathlib.Core.Path.{_≡_, refl, sym, _∙_, ap}
 use native.Mathlib.Omega.{arith}
 use lib.ListN.{getD}
-use borrow.Author.Needs.{needs}
 use Rattle.node.specs.Row.{uses}
 use Rattle.card.specs.declared.Finding.the-variants.{Fine, Refused}
 use Rattle.card.specs.Nodes.{countOf, rowOf}
@@ -28,20 +27,20 @@ counted c = c .before .before .before .child-counts .ensures (c .before .loop .j
     (omega (arith, c .before .before .before .before .before .pre .few))
 
 child-counts-requires : tie.Need-child-counts-requires Inv-loop μ-loop
-child-counts-requires c κs = search needs
+child-counts-requires c κs = c .before .pre
 
 count-requires : tie.Need-count-requires Inv-loop μ-loop
-count-requires c κs = search needs
+count-requires c κs = tt
 
 sub-root : tie.Need-sub-root Inv-loop μ-loop
 sub-root c =
     omega (arith, c .before .before .before .pre .some)
 
 loop-holds : tie.Need-loop-holds Inv-loop μ-loop
-loop-holds c = search needs
+loop-holds c = (omega arith, refl)
 
 mul-if1 : tie.Need-mul-if1 Inv-loop μ-loop
-mul-if1 c = search needs
+mul-if1 c = omega arith
 
 array-read-if1 : tie.Need-array-read-if1 Inv-loop μ-loop
 array-read-if1 c =
@@ -62,16 +61,16 @@ returns c =
     (λ e. omega arith))
 
 add-j : tie.Need-add-j Inv-loop μ-loop
-add-j c = search needs
+add-j c = omega arith
 
 loop-less : tie.Need-loop-less Inv-loop μ-loop
-loop-less c = search needs
+loop-less c = omega arith
 
 loop-again : tie.Need-loop-again Inv-loop μ-loop
 loop-again c =
     let row = rowOf (c .before .before .before .before .before .before .args .nodes .now) in
     let at = c .before .before .loop in (
-      search needs,
+      omega arith,
       fine-so-far (misuseOf row) (at .j) (at .inv .1)
           (used-once-as-counted row (at .j) _ (counted (c .before)) (c .if1 .left)),
     )
