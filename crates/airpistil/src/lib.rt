@@ -11,7 +11,7 @@ use card::Checked;
 pub extern "C" fn airpistil_check(card: &[u8]) -> Checked
     ensures { λ r. ⌜ r ≡ checking (now (card .entry)) ⌝ }
 {
-    card::check(card)
+    reader::check(card)
 }
 
 // How many of the card's leading bytes are its note. (A part of the caller's bytes can't be handed back to C; its
@@ -20,6 +20,6 @@ pub extern "C" fn airpistil_check(card: &[u8]) -> Checked
 pub extern "C" fn airpistil_note(card: &[u8]) -> usize
     ensures { λ r. ⌜ r ≡ length (noteOf (now (card .entry))) ⌝ }
 {
-    let note = card::note(card);
+    let note = reader::note(card);
     note.len()
 }

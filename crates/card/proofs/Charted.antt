@@ -26,7 +26,7 @@ use Rattle.card.specs.Findings.{inOrderAs}
 use Rattle.card.specs.Faultless.{Faultless}
 use Rattle.card.specs.Meaning.{Declared, deeds}
 use Rattle.card.proofs.Tests.{both}
-use Rattle.card.proofs.Counts.{length-row}
+use Rattle.card.proofs.Rowing.{length-row}
 
 -- Children lower than their parents, along the row.
 lower-more :

@@ -1,11 +1,8 @@
--- Laws of cards.
+-- Laws of cards. proofs/Promises.antt is the reader's file.
 pub mod Tests
 pub mod Trailers
+pub mod Rowing
 pub mod Lowest
-pub mod NodeFaults
-pub mod Counts
-pub mod Depths
-pub mod Sets
 pub mod Relied
 pub mod Answers
 pub mod Decided
@@ -15,3 +12,4 @@ pub mod Deciding
 pub mod Telling
 pub mod Charted
 pub mod Promises
+pub mod Example

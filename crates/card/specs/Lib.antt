@@ -8,4 +8,3 @@ pub mod Note
 pub mod Table
 pub mod Meaning
 pub mod Faultless
-pub mod Counting

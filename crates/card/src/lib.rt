@@ -1,16 +1,5 @@
-// The chart card: any run of bytes gets its one answer, and a sound card is a chart (01, "The chart card" and numbers
-// 1 to 6 of "Verdicts and numbers given").
-ghost use mathlib.Core.Path.{_≡_};
-ghost use Rattle.card.specs.Checking.{checking, refusal};
-ghost use Rattle.card.specs.Note.{noteOf};
-use node::Node;
-
-mod faults;
-mod figures;
-pub mod nodes;
-pub mod parts;
-mod rules;
-mod trees;
+// What a card is answered with. What the bytes of a card mean is said in specs/, and what is promised of it in
+// proofs/Promises.antt; the code that reads cards is the crate `reader`.
 
 // The answer to a card: number 0, place 0 and the figures of a sound one; or the number and place of a refusal, and
 // no figures.
@@ -27,65 +16,4 @@ pub struct Checked {
 pub enum Finding {
     Fine,
     Refused { number: u32, place: u32 },
-}
-
-fn refused(number: u32, place: u32) -> Checked
-    ensures { λ r. ⌜ r ≡ refusal number place ⌝ }
-{
-    Checked {
-        number,
-        place,
-        nodes: 0,
-        depth: 0,
-        lifelines: 0,
-    }
-}
-
-// The answer to any run of bytes as a card. The rules stand in the order of 01's table: the first that is broken
-// answers.
-pub fn check(card: &[u8]) -> Checked
-    ensures { λ r. ⌜ r ≡ checking (now (card .entry)) ⌝ }
-{
-    if !rules::is_framed(card) {
-        return refused(1, 0);
-    }
-    if !rules::is_back_in_rule(card) {
-        return refused(2, 0);
-    }
-    if !rules::are_counts_in_range(card) {
-        return refused(3, 0);
-    }
-    let nodes = parts::nodes(card);
-    let fault = faults::lowest_faulty(nodes, parts::lifelines(card), parts::messages(card));
-    if let Finding::Refused { number, place } = fault {
-        return refused(number, place);
-    }
-    let misuse = trees::lowest_misused(nodes);
-    if let Finding::Refused { number, place } = misuse {
-        return refused(number, place);
-    }
-    let depth = figures::depth(nodes);
-    if Node::DEPTH < depth {
-        return refused(6, 0);
-    }
-    Checked {
-        number: 0,
-        place: 0,
-        nodes: nodes::count(nodes) as u32,
-        depth,
-        lifelines: figures::acting(nodes),
-    }
-}
-
-// The note of a sound card: the leading part of the caller's own bytes. Any other card has none.
-pub fn note(card: &[u8]) -> &[u8]
-    ensures { λ r. ⌜ now r ≡ noteOf (now (card .entry)) ⌝ }
-{
-    let checked = check(card);
-    let number = checked.number;
-    if number != 0 {
-        return &card[0..0];
-    }
-    let end = parts::first_at(card);
-    &card[0..end]
 }
