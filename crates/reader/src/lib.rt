@@ -7,12 +7,7 @@ use card::Checked;
 use card::Finding;
 use node::Node;
 
-mod faults;
-mod figures;
-pub mod nodes;
-pub mod parts;
 mod rules;
-mod trees;
 
 fn refused(number: u32, place: u32) -> Checked
     ensures { λ r. ⌜ r ≡ refusal number place ⌝ }
@@ -41,24 +36,24 @@ pub fn check(card: &[u8]) -> Checked
         return refused(3, 0);
     }
     let nodes = parts::nodes(card);
-    let fault = faults::lowest_faulty(nodes, parts::lifelines(card), parts::messages(card));
+    let fault = scan::faults::lowest_faulty(nodes, parts::lifelines(card), parts::messages(card));
     if let Finding::Refused { number, place } = fault {
         return refused(number, place);
     }
-    let misuse = trees::lowest_misused(nodes);
+    let misuse = scan::trees::lowest_misused(nodes);
     if let Finding::Refused { number, place } = misuse {
         return refused(number, place);
     }
-    let depth = figures::depth(nodes);
+    let depth = scan::figures::depth(nodes);
     if Node::DEPTH < depth {
         return refused(6, 0);
     }
     Checked {
         number: 0,
         place: 0,
-        nodes: nodes::count(nodes) as u32,
+        nodes: parts::count(nodes) as u32,
         depth,
-        lifelines: figures::acting(nodes),
+        lifelines: scan::figures::acting(nodes),
     }
 }
 

@@ -1,7 +1,6 @@
 // Rules of the whole card: numbers 1, 2 and 3 of 01's table.
 ghost use mathlib.Core.Path.{_≡_};
 ghost use Rattle.card.specs.Findings.{within, framed, backInRule, countsInRange};
-use crate::parts;
 use node::Node;
 
 fn is_within(low: usize, x: usize, high: usize) -> bool
