@@ -47,7 +47,7 @@ framed-decided card =
     same-number (trailerByte card 5) (byte card (size - 1)) 0x4C (from-the-end card 5 1 long refl))))
 
 module _ (card : List ℕ) (long : 6 ≤ length card) where
-  same-back : backOf card ≡ back card
+  pub same-back : backOf card ≡ back card
   same-back = rw (from-the-end card 0 6 long refl, from-the-end card 1 5 long refl)
 
   pub same-lifelines : lifelinesOf card ≡ lifelines card

@@ -2,26 +2,27 @@
 -- cites others. `check` answers `checking` of the bytes and `note` hands back `noteOf` of them: that is their
 -- contract (src/lib.rt). What is said here of the two definitions is therefore said of the code.
 -- Assumes nothing.
-use Prim.Native.Nat.{ℕ, _≤_}
+use Prim.Native.Nat.{ℕ, _-_, _≤_}
 use mathlib.Core.List.{List, []}
 use mathlib.Core.Logic.{_≢_, _↔_}
 use mathlib.Core.Path.{_≡_, refl, sym, _∙_, ap}
 use native.Mathlib.Omega.{arith}
 use lib.Dec.{ltb}
-use lib.ListN.{take}
+use lib.ListN.{length, take}
 use borrow.Author.Tests.{eq-eqb, ne-eqb}
 use Rattle.chart.specs.Chart.{size, depth}
+use Rattle.card.specs.declared.Checked.{Checked}
 use Rattle.card.specs.declared.Finding.{Finding}
 use Rattle.card.specs.declared.Finding.the-variants.{Fine, Refused}
-use Rattle.card.specs.Parts.{firstAt, lifelinesOf, messagesOf, nodesOf}
+use Rattle.card.specs.Parts.{lifelinesOf, messagesOf, nodesOf}
 use Rattle.card.specs.Nodes.{cardChart}
 use Rattle.card.specs.Figures.{tally}
-use Rattle.card.specs.Checking.{checking, findings, first, answered, refusal, soundness}
+use Rattle.card.specs.Checking.{checking, findings, first, answered, soundness}
 use Rattle.card.specs.Note.{noteOf}
-use Rattle.card.specs.Table.{Told, Sound, lifelines, messages}
+use Rattle.card.specs.Table.{Told, Sound, back, lifelines, messages}
 use Rattle.card.specs.Table.Told.{one, two, three, four, five, six, sound}
 use Rattle.card.specs.Meaning.{Declared, deeds}
-use Rattle.card.proofs.Deciding.{at-least-six, same-lifelines, same-messages}
+use Rattle.card.proofs.Deciding.{at-least-six, same-back, same-lifelines, same-messages}
 use Rattle.card.proofs.Telling.{told→answer, answer→told, sound→answer}
 use Rattle.card.proofs.Telling.{sound→faultless, sound→once, sound→orderly}
 use Rattle.card.proofs.Charted.{as-many-nodes, the-same-act, chart-declared}
@@ -35,6 +36,12 @@ told-zero card (five o l) e = absurd (omega arith)
 told-zero card (six t h) e = absurd (omega arith)
 told-zero card (sound s) e = s
 
+no-figures :
+    (sound : Checked) (f : Finding) → sound .number ≡ 0 → answered f sound .number ≢ 0
+    → (answered f sound .nodes ≡ 0) × (answered f sound .depth ≡ 0) × (answered f sound .lifelines ≡ 0)
+no-figures s Fine e h = absurd (h e)
+no-figures s (Refused number place) e h = (refl, refl, refl)
+
 module _ (card : List ℕ) where
   -- "No. | Given when | Place", 1 to 6, and 0 for a sound card: exactly as 01's table tells.
   pub given-exactly-as-the-table-tells :
@@ -47,16 +54,10 @@ module _ (card : List ℕ) where
 
   -- "A card check that refuses returns number, place and zero figures."
   pub a-refusal-has-no-figures :
-      checking card .number ≢ 0 → checking card ≡ refusal (checking card .number) (checking card .place)
+      checking card .number ≢ 0
+      → (checking card .nodes ≡ 0) × (checking card .depth ≡ 0) × (checking card .lifelines ≡ 0)
   unfolding checking
-  a-refusal-has-no-figures h = by (first (findings card)) h
-    where
-      by :
-          (f : Finding) → answered f (soundness (nodesOf card)) .number ≢ 0
-          → answered f (soundness (nodesOf card))
-          ≡ refusal (answered f (soundness (nodesOf card)) .number) (answered f (soundness (nodesOf card)) .place)
-      by Fine h = absurd (h refl)
-      by (Refused number place) h = refl
+  a-refusal-has-no-figures h = no-figures (soundness (nodesOf card)) (first (findings card)) refl h
 
   -- "Checking a sound card gives number 0, place 0, its number of nodes, its depth, and the number of different
   -- lifelines that act in it": of the chart that the card is.
@@ -89,9 +90,11 @@ module _ (card : List ℕ) where
         rw (← same-lifelines card long, ← same-messages card long)
         (chart-declared (lifelinesOf card) (messagesOf card) (nodesOf card) (sound→orderly card s))
 
-    -- "The note is handed back as that part of the caller's own bytes":
-    pub sound-has-its-note : noteOf card ≡ take (firstAt card) card
-    sound-has-its-note = rw (eq-eqb (checking card .number) 0 (told→answer card (sound s) .0))
+    -- "The note is handed back as that part of the caller's own bytes": those before the first node.
+    pub sound-has-its-note : noteOf card ≡ take (length card - 6 - back card) card
+    sound-has-its-note =
+        let long = at-least-six card (s .tree .ordered .trailed .framed) in
+        rw (eq-eqb (checking card .number) 0 (told→answer card (sound s) .0), ← same-back card long)
 
   -- "a refused card gives an empty part."
   pub a-refused-card-has-no-note : checking card .number ≢ 0 → noteOf card ≡ []
