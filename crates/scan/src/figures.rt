@@ -17,7 +17,7 @@ fn larger(x: u8, y: u8) -> u8
 }
 
 // The depth of a node: one more than that of its deepest child.
-fn depth_over(depths: &[u8; 255], n: Node) -> u8
+fn depth_over(depths: &[u8; Node::NODES], n: Node) -> u8
     requires { ⌜ Below 255 (children n) × ((j : ℕ) → getD (now depths) j 0 < 255) ⌝ }
     ensures { λ r. ⌜ r ≡ 1 + highest (λ j. getD (now (depths .entry)) j 0) (children n) ⌝ }
 {
@@ -37,7 +37,7 @@ pub fn depth(nodes: &[u8]) -> u32
     requires { ⌜ Faultless (now nodes) ⌝ }
     ensures { λ r. ⌜ r ≡ depthOf (now (nodes .entry)) ⌝ }
 {
-    let mut depths = [0u8; 255];
+    let mut depths = [0u8; Node::NODES];
     let count = parts::count(nodes);
     let mut i = 0;
     while i < count {
@@ -69,7 +69,7 @@ pub fn acting(nodes: &[u8]) -> u32
     let mut set: u16 = 0;
     let mut i = 0;
     while i < count {
-        set = set | actor(parts::node_at(nodes, i));
+        set |= actor(parts::node_at(nodes, i));
         i += 1;
     }
     u16::count_ones(set)

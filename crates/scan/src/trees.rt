@@ -10,7 +10,7 @@ ghost use Rattle.scan.specs.Counting.{oneMore, oneMoreEach};
 use card::Finding;
 use node::Node;
 
-fn count_child(counts: &mut [u16; 255], child: u32)
+fn count_child(counts: &mut [u16; Node::NODES], child: u32)
     requires { ⌜ (child < 255) × (getD (now counts) child 0 < 65535) ⌝ }
     ensures { λ r. ⌜ now (counts .exit) ≡ oneMore (now (counts .entry)) child ⌝ }
 {
@@ -19,7 +19,7 @@ fn count_child(counts: &mut [u16; 255], child: u32)
 }
 
 // Counts the children of a node.
-fn count_children(counts: &mut [u16; 255], n: Node)
+fn count_children(counts: &mut [u16; Node::NODES], n: Node)
     requires { ⌜ Below 255 (children n) × ((j : ℕ) → getD (now counts) j 0 < 65534) ⌝ }
     ensures { λ r. ⌜ now (counts .exit) ≡ oneMoreEach (now (counts .entry)) (children n) ⌝ }
 {
@@ -36,11 +36,11 @@ fn count_children(counts: &mut [u16; 255], n: Node)
 }
 
 // How often each node is a child.
-fn child_counts(nodes: &[u8]) -> [u16; 255]
+fn child_counts(nodes: &[u8]) -> [u16; Node::NODES]
     requires { ⌜ Faultless (now nodes) ⌝ }
     ensures { λ r. ⌜ ((j : ℕ) → j < 255 → getD r j 0 ≡ uses (rowOf (now (nodes .entry))) j) ⌝ }
 {
-    let mut counts = [0u16; 255];
+    let mut counts = [0u16; Node::NODES];
     let count = parts::count(nodes);
     let mut i = 0;
     while i < count {
