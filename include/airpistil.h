@@ -3,7 +3,8 @@
  *
  * Every call takes any bytes, sound or spoiled, and answers with one number. Nothing is allocated and nothing is kept
  * between calls: the caller owns every byte that it lends, a call reads them while it runs, and writes to none of them
- * unless its parameter says so. A pointer may be anything, also null, if its length is 0; a length is at most PTRDIFF_MAX.
+ * unless its parameter says so. A pointer is not null and points to as many bytes as the length after it says, at most
+ * PTRDIFF_MAX; with length 0 nothing is read through it.
  *
  * Link with libairpistil.a.
  */

@@ -41,33 +41,39 @@ impl Node {
 
     pub const DEPTH: u32 = 16;
 
+    // Nodes of a card, and the bytes of each.
     pub const NODES: usize = 255;
 
     pub const NODE_BYTES: usize = 4;
 
     pub const CARD_BYTES: usize = 4096;
 
+    // Places of the room that are usable.
     pub const PLACES: usize = 16384;
 
     // A place is one number: the kind in 4 bits above a and b in 14 bits each. What is too wide loses its high bits.
     const KIND_MASK: u32 = 0xF;
 
+    const KIND_SHIFT: u32 = 28;
+
     const NUMBER_MASK: u32 = 0x3FFF;
+
+    const NUMBER_BITS: u32 = 14;
 
     pub fn pack(self) -> u32
         ensures { λ r. ⌜ r ≡ wordOf self ⌝ }
     {
         let kind = self.kind & Node::KIND_MASK;
-        let upper = (kind << 14) | (self.a & Node::NUMBER_MASK);
-        (upper << 14) | (self.b & Node::NUMBER_MASK)
+        let upper = (kind << Node::NUMBER_BITS) | (self.a & Node::NUMBER_MASK);
+        (upper << Node::NUMBER_BITS) | (self.b & Node::NUMBER_MASK)
     }
 
     pub fn unpack(word: u32) -> Node
         ensures { λ r. ⌜ r ≡ nodeOf word ⌝ }
     {
         Node {
-            kind: word >> 28,
-            a: (word >> 14) & Node::NUMBER_MASK,
+            kind: word >> Node::KIND_SHIFT,
+            a: (word >> Node::NUMBER_BITS) & Node::NUMBER_MASK,
             b: word & Node::NUMBER_MASK,
         }
     }
