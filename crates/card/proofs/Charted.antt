@@ -15,7 +15,7 @@ use Rattle.chart.specs.Chart.{Chart, size}
 use Rattle.chart.specs.Chart.Chart.{empty}
 use Rattle.node.specs.declared.Node.{Node}
 use Rattle.node.specs.Kind.{Kind, kindOf}
-use Rattle.node.specs.Kind.Pair.{inOrder, choice}
+use Rattle.node.specs.Kind.Pair.{composed, choice}
 use Rattle.node.specs.Kind.Kind.{nothing, action, pairs, loops, unknown}
 use Rattle.node.specs.Row.{stands, standsAs, charts, chart, children, childrenAs, uses, Below}
 use Rattle.node.proofs.Rows.{charts-more, length-charts}
@@ -79,7 +79,7 @@ module _ (lifelines messages : ℕ) where
   declared-as (action r) i n before h all =
       let (l, m) = both (ltb (n .a) lifelines) (ltb (n .b) messages) h in
       (ltb-true (n .a) lifelines l, ltb-true (n .b) messages m)
-  declared-as (pairs (inOrder o)) i n before h all = (all (n .a), all (n .b))
+  declared-as (pairs (composed o)) i n before h all = (all (n .a), all (n .b))
   declared-as (pairs choice) i n before h all = (all (n .a), all (n .b))
   declared-as (loops k) i n before h all = all (n .a)
   declared-as unknown i n before h all = tt
@@ -105,7 +105,7 @@ module _ (d : ℕ) where
       (childrenAs k n)
   deeds-as nothing before n = refl
   deeds-as (action r) before n = omega arith
-  deeds-as (pairs (inOrder o)) before n = omega arith
+  deeds-as (pairs (composed o)) before n = omega arith
   deeds-as (pairs choice) before n = omega arith
   deeds-as (loops k) before n = omega arith
   deeds-as unknown before n = refl

@@ -42,6 +42,7 @@ abbrev pub soundness : List ℕ → Checked
 soundness nodes =
     record { number = 0; place = 0; nodes = countOf nodes; depth = depthOf nodes; lifelines = actingOf nodes }
 
+-- What is answered, by what was found.
 abbrev pub answered : Finding → Checked → Checked
 answered Fine sound = sound
 answered (Refused n p) sound = refusal n p

@@ -1,4 +1,5 @@
--- What refuses a card: numbers 1 to 6 of 01's table, each by itself. `Checking` puts them in their order.
+-- What refuses a card: numbers 1 to 5 of the table in 01, "Verdicts and numbers given", each by itself. `Checking`
+-- adds 6 and puts them in their order.
 -- Assumes nothing.
 use Prim.Native.Nat.{ℕ, zero, suc, _-_, _%_}
 use mathlib.Core.Bool.{Bool, false, cond, _&&_}
@@ -30,8 +31,8 @@ backInRule card = eqb (backOf card % 4) 0 && (within 4 (backOf card) 1020 && leb
 abbrev pub countsInRange : List ℕ → Bool
 countsInRange card = within 1 (lifelinesOf card) 16 && within 1 (messagesOf card) 64
 
--- 4: node i has a known kind, zero in its unused fields, a declared lifeline and message, and children lower than
--- itself; c is never used. This is the one definition of what is wrong with a node.
+-- 4: node i, of that kind, has zero in its unused fields, a declared lifeline and message, and children lower than
+-- itself. This is the one definition of what is wrong with a node.
 abbrev pub inOrderAs : Kind → ℕ → ℕ → ℕ → Node → Bool
 inOrderAs nothing lifelines messages i n = eqb (n .a) 0 && eqb (n .b) 0
 inOrderAs (action r) lifelines messages i n = ltb (n .a) lifelines && ltb (n .b) messages
@@ -39,6 +40,7 @@ inOrderAs (pairs p) lifelines messages i n = ltb (n .a) i && ltb (n .b) i
 inOrderAs (loops k) lifelines messages i n = eqb (n .b) 0 && ltb (n .a) i
 inOrderAs unknown lifelines messages i n = false
 
+-- Node i is in order: its byte c is zero, and so is what its kind asks.
 abbrev pub inOrder : ℕ → ℕ → ℕ → Node → ℕ → Bool
 inOrder lifelines messages i n c = eqb c 0 && inOrderAs (kindOf (n .kind)) lifelines messages i n
 
@@ -64,9 +66,10 @@ abbrev pub lowest : (ℕ → ℕ) → ℕ → Finding
 lowest fault zero = Fine
 lowest fault (suc n) = orElse (lowest fault n) (finding (fault n) n)
 
--- 4 over all nodes, and 5 over all nodes but the root.
+-- 4, over all nodes.
 abbrev pub faulty : ℕ → ℕ → List ℕ → Finding
 faulty lifelines messages nodes = lowest (faultOf lifelines messages nodes) (countOf nodes)
 
+-- 5, over all nodes but the root.
 abbrev pub misused : List ℕ → Finding
 misused nodes = lowest (misuseOf (rowOf nodes)) (countOf nodes - 1)

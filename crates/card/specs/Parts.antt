@@ -15,17 +15,19 @@ trailerByte card k = cond (ltb (length card) 6) 0 (getD card (length card - 6 + 
 abbrev pub backOf : List ℕ → ℕ
 backOf card = trailerByte card 0 + 256 * trailerByte card 1
 
--- The declared numbers of lifelines and of messages (01, The chart card).
+-- The declared number of lifelines (01, The chart card).
 abbrev pub lifelinesOf : List ℕ → ℕ
 lifelinesOf card = trailerByte card 2
 
+-- The declared number of messages (01, The chart card).
 abbrev pub messagesOf : List ℕ → ℕ
 messagesOf card = trailerByte card 3
 
--- Where the trailer begins, and where the first node does.
+-- Where the trailer begins.
 abbrev pub trailerAt : List ℕ → ℕ
 trailerAt card = length card - 6
 
+-- Where the first node begins, and the note ends.
 abbrev pub firstAt : List ℕ → ℕ
 firstAt card = trailerAt card - backOf card
 

@@ -1,5 +1,6 @@
--- Numbers 1 to 6 of 01's table a second time: as conditions on the bytes, in the table's words and order, with
--- nothing shared with `Checking` but the charts of a row. proofs/Telling.antt shows that both say the same.
+-- Numbers 1 to 6 of the table in 01, "Verdicts and numbers given", a second time: as conditions on the bytes, in the
+-- table's words and order, with nothing shared with `Checking` but the charts of a row. proofs/Telling.antt shows
+-- that both say the same.
 -- Assumes nothing.
 use Prim.Native.Nat.{ℕ, _+_, _-_, _*_, _/_, _%_, _<_, _≤_}
 use mathlib.Core.List.{List}
@@ -19,13 +20,15 @@ abbrev pub NoCard : List ℕ → Type 0
 NoCard card =
     length card < 6 ⊎ 4096 < length card ⊎ byte card (length card - 2) ≢ 0x57 ⊎ byte card (length card - 1) ≢ 0x4C
 
--- The trailer: back distance, low byte first; number of lifelines; number of messages.
+-- The back distance, low byte first (01, The chart card).
 abbrev pub back : List ℕ → ℕ
 back card = byte card (length card - 6) + 256 * byte card (length card - 5)
 
+-- The number of lifelines (01, The chart card).
 abbrev pub lifelines : List ℕ → ℕ
 lifelines card = byte card (length card - 4)
 
+-- The number of messages (01, The chart card).
 abbrev pub messages : List ℕ → ℕ
 messages card = byte card (length card - 3)
 
@@ -37,10 +40,11 @@ BackOut card = back card % 4 ≢ 0 ⊎ back card < 4 ⊎ 1020 < back card ⊎ le
 abbrev pub CountsOut : List ℕ → Type 0
 CountsOut card = lifelines card < 1 ⊎ 16 < lifelines card ⊎ messages card < 1 ⊎ 64 < messages card
 
--- How many nodes there are; field k of node i: kind, a, b, c.
+-- How many nodes there are (01, The chart card).
 abbrev pub count : List ℕ → ℕ
 count card = back card / 4
 
+-- Field k of node i: kind, a, b, c (01, The chart card).
 abbrev pub field : List ℕ → ℕ → ℕ → ℕ
 field card i k = byte card (length card - 6 - back card + (i * 4 + k))
 
@@ -60,10 +64,12 @@ Undeclared lifelines messages kind a b = 1 ≤ kind × kind ≤ 2 × (lifelines 
 abbrev pub NotLower : ℕ → ℕ → ℕ → ℕ → Type 0
 NotLower i kind a b = (3 ≤ kind × i ≤ a) ⊎ (3 ≤ kind × kind ≤ 6 × i ≤ b)
 
+-- A node is at fault.
 abbrev pub Fault : ℕ → ℕ → ℕ → ℕ → ℕ → ℕ → ℕ → Type 0
 Fault lifelines messages i kind a b c =
     UnknownKind kind ⊎ UnusedSet kind a b c ⊎ Undeclared lifelines messages kind a b ⊎ NotLower i kind a b
 
+-- Node i of the card is at fault.
 abbrev pub FaultAt : List ℕ → ℕ → Type 0
 FaultAt card i =
     Fault (lifelines card) (messages card) i (field card i 0) (field card i 1) (field card i 2) (field card i 3)
@@ -82,16 +88,18 @@ pub record Lowest (At : ℕ → Type 0) (n p : ℕ) : Type 0 where
   pub here : At p
   pub none-lower : (j : ℕ) → j < p → ¬ At j
 
--- None of the conditions up to 3, 4, 5 and 6 holds.
+-- None of the conditions 1 to 3 holds.
 pub record Trailed (card : List ℕ) : Type 0 where
   pub framed : ¬ NoCard card
   pub back : ¬ BackOut card
   pub counts : ¬ CountsOut card
 
+-- Nor does 4, at any node.
 pub record Ordered (card : List ℕ) : Type 0 where
   pub trailed : Trailed card
   pub nodes : (i : ℕ) → i < count card → ¬ FaultAt card i
 
+-- Nor does 5, at any node but the root.
 pub record Tree (card : List ℕ) : Type 0 where
   pub ordered : Ordered card
   pub once : (j : ℕ) → j < count card - 1 → ¬ MisuseAt card j

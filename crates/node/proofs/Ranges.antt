@@ -14,7 +14,7 @@ use Rattle.chart.specs.Chart.Loop.{each, head}
 use Rattle.node.specs.declared.Node.{Node}
 use Rattle.node.specs.Row.{children}
 use Rattle.node.specs.Kind.{kindOf, allKinds, Pair}
-use Rattle.node.specs.Kind.Pair.{inOrder, choice}
+use Rattle.node.specs.Kind.Pair.{composed, choice}
 use Rattle.node.specs.Kind.Kind.{nothing, action, pairs, loops, unknown}
 
 -- A property of the numbers from `low` on, shown number by number.
@@ -40,9 +40,9 @@ one-and-two-are-actions k low high =
 
 pair-at : (j : ℕ) → j < 4 → (p : Pair) × (kindOf (3 + j) ≡ pairs p)
 unfolding kindOf
-pair-at zero h = (inOrder strict, refl)
-pair-at (suc zero) h = (inOrder seq, refl)
-pair-at (suc (suc zero)) h = (inOrder par, refl)
+pair-at zero h = (composed strict, refl)
+pair-at (suc zero) h = (composed seq, refl)
+pair-at (suc (suc zero)) h = (composed par, refl)
 pair-at (suc (suc (suc zero))) h = (choice, refl)
 pair-at (suc (suc (suc (suc j)))) h = absurd (omega arith)
 

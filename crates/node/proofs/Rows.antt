@@ -10,7 +10,7 @@ use Rattle.chart.specs.Chart.{Chart, depth}
 use Rattle.chart.specs.Chart.Chart.{empty}
 use Rattle.node.specs.declared.Node.{Node}
 use Rattle.node.specs.Kind.{Kind, kindOf}
-use Rattle.node.specs.Kind.Pair.{inOrder, choice}
+use Rattle.node.specs.Kind.Pair.{composed, choice}
 use Rattle.node.specs.Kind.Kind.{nothing, action, pairs, loops, unknown}
 use Rattle.node.specs.Row.{stands, standsAs, chartsAfter, charts, children, childrenAs, highest}
 
@@ -62,7 +62,7 @@ depth-as : (k : Kind) (before : List Chart) (n : Node)
     → depth (standsAs k before n) ≡ 1 + highest (λ j. depth (getD before j empty)) (childrenAs k n)
 depth-as nothing before n = refl
 depth-as (action r) before n = refl
-depth-as (pairs (inOrder o)) before n = omega arith
+depth-as (pairs (composed o)) before n = omega arith
 depth-as (pairs choice) before n = omega arith
 depth-as (loops k) before n = omega arith
 depth-as unknown before n = refl

@@ -18,7 +18,7 @@ use Rattle.chart.specs.Chart.{Chart, size}
 use Rattle.chart.specs.Chart.Chart.{empty}
 use Rattle.node.specs.declared.Node.{Node}
 use Rattle.node.specs.Kind.{Kind, kindOf}
-use Rattle.node.specs.Kind.Pair.{inOrder, choice}
+use Rattle.node.specs.Kind.Pair.{composed, choice}
 use Rattle.node.specs.Kind.Kind.{nothing, action, pairs, loops, unknown}
 use Rattle.node.specs.Row.{stands, standsAs, chartsAfter, charts, chart, children, childrenAs, times, uses, Below}
 use Rattle.node.proofs.Rows.{chartsAfter-keeps}
@@ -184,7 +184,7 @@ size-as : (k : Kind) (before : List Chart) (n : Node)
     → size (standsAs k before n) ≡ 1 + sumOf (λ j. size (getD before j empty)) (childrenAs k n)
 size-as nothing before n = refl
 size-as (action r) before n = refl
-size-as (pairs (inOrder o)) before n = omega arith
+size-as (pairs (composed o)) before n = omega arith
 size-as (pairs choice) before n = omega arith
 size-as (loops k) before n = omega arith
 size-as unknown before n = refl

@@ -11,12 +11,12 @@ use Rattle.chart.specs.Chart.Chart.{alt, pair}
 
 -- The four pairs: two parts in one of the three orders, or a choice of them (01, The chart card, kinds 3 to 6).
 pub data Pair : Type 0 where
-  inOrder : Order → Pair
+  composed : Order → Pair
   choice : Pair
 
 -- The chart of a pair.
 abbrev pub paired : Pair → Chart → Chart → Chart
-paired (inOrder o) l r = pair o l r
+paired (composed o) l r = pair o l r
 paired choice l r = alt l r
 
 -- The kinds: empty, an action (which receives or not), a pair, a loop; or no such kind (01, The chart card).
@@ -33,7 +33,7 @@ abbrev pub allKinds : List Kind
 allKinds =
     nothing
     ∷ action false ∷ action true
-    ∷ pairs (inOrder strict) ∷ pairs (inOrder seq) ∷ pairs (inOrder par) ∷ pairs choice
+    ∷ pairs (composed strict) ∷ pairs (composed seq) ∷ pairs (composed par) ∷ pairs choice
     ∷ loops (each strict) ∷ loops head ∷ loops (each seq) ∷ loops (each par)
     ∷ []
 

@@ -39,7 +39,7 @@ charts row = chartsAfter [] row
 abbrev pub chart : List Node → Chart
 chart row = getD (charts row) (length row - 1) empty
 
--- The numbers of a node's children, by its kind.
+-- The numbers of the children of a node of that kind: left and right, or the body (01, The chart card).
 abbrev pub childrenAs : Kind → Node → List ℕ
 childrenAs nothing n = []
 childrenAs (action r) n = []
@@ -47,6 +47,7 @@ childrenAs (pairs p) n = n .a ∷ n .b ∷ []
 childrenAs (loops k) n = n .a ∷ []
 childrenAs unknown n = []
 
+-- The numbers of a node's children.
 abbrev pub children : Node → List ℕ
 children n = childrenAs (kindOf (n .kind)) n
 
@@ -65,7 +66,7 @@ abbrev pub highest : (ℕ → ℕ) → List ℕ → ℕ
 highest f [] = 0
 highest f (k ∷ ks) = max (f k) (highest f ks)
 
--- How often node j is a child in the row.
+-- How often node j is a child in the row; a pair may name it twice (01, Verdicts and numbers given, 5).
 abbrev pub uses : List Node → ℕ → ℕ
 uses [] j = 0
 uses (n ∷ row) j = times j (children n) + uses row j

@@ -1,5 +1,6 @@
-// The parts of a card: note, nodes and a trailer of six bytes; and one node out of the bytes of the nodes (01, "The chart
-// card"). For bytes that are no card the parts still have an answer; the reader's rules say what makes a card of them.
+// The parts of a card: note, nodes and a trailer of six bytes; and one node out of the bytes of the nodes (01, "The
+// chart card"). For bytes that are no card the parts still have an answer; the reader's rules say what makes a card
+// of them.
 ghost use mathlib.Core.Path.{_≡_};
 ghost use Prim.Native.Nat.{_<_};
 ghost use Rattle.card.specs.Parts.{trailerByte, backOf, lifelinesOf, messagesOf, trailerAt, firstAt, nodesOf};
