@@ -7,7 +7,6 @@ use mathlib.Core.Path.{_≡_, refl}
 use Rattle.chart.specs.ByHand.{S}
 use Rattle.node.specs.Kind.{kindOf}
 use Rattle.node.specs.Row.{charts}
-use Rattle.card.specs.declared.Checked.{Checked}
 use Rattle.card.specs.Parts.{trailerByte}
 use Rattle.card.specs.Nodes.{cardChart}
 use Rattle.card.specs.Figures.{tally}

@@ -1,7 +1,7 @@
 // Number 5: how often each node is a child, and the lowest that is not a child exactly once.
 ghost use mathlib.Core.Path.{_≡_};
 ghost use Prim.Native.Nat.{ℕ, _<_};
-ghost use lib.ListN.{getD};
+ghost use lib.ListN.{getD, replicate};
 ghost use Rattle.node.specs.Row.{children, uses, Below};
 ghost use Rattle.card.specs.Nodes.{rowOf};
 ghost use Rattle.card.specs.Findings.{misused};
@@ -35,19 +35,17 @@ fn count_children(counts: &mut [u16; Node::NODES], n: Node)
     }
 }
 
-// How often each node is a child.
-fn child_counts(nodes: &[u8]) -> [u16; Node::NODES]
-    requires { ⌜ Faultless (now nodes) ⌝ }
-    ensures { λ r. ⌜ ((j : ℕ) → j < 255 → getD r j 0 ≡ uses (rowOf (now (nodes .entry))) j) ⌝ }
+// Counts the children of all nodes, from zero.
+fn count_all(counts: &mut [u16; Node::NODES], nodes: &[u8])
+    requires { ⌜ Faultless (now nodes) × (now counts ≡ replicate 255 0) ⌝ }
+    ensures { λ r. ⌜ ((j : ℕ) → j < 255 → getD (now (counts .exit)) j 0 ≡ uses (rowOf (now (nodes .entry))) j) ⌝ }
 {
-    let mut counts = [0u16; Node::NODES];
     let count = parts::count(nodes);
     let mut i = 0;
     while i < count {
-        count_children(&mut counts, parts::node_at(nodes, i));
+        count_children(counts, parts::node_at(nodes, i));
         i += 1;
     }
-    counts
 }
 
 // The lowest node but the root that is not a child exactly once.
@@ -55,7 +53,8 @@ pub fn lowest_misused(nodes: &[u8]) -> Finding
     requires { ⌜ Faultless (now nodes) ⌝ }
     ensures { λ r. ⌜ r ≡ misused (now (nodes .entry)) ⌝ }
 {
-    let counts = child_counts(nodes);
+    let mut counts = [0u16; Node::NODES];
+    count_all(&mut counts, nodes);
     let root = parts::count(nodes) - 1;
     let mut j = 0;
     while j < root {
