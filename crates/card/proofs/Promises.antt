@@ -42,7 +42,27 @@ no-figures :
 no-figures s Fine e h = absurd (h e)
 no-figures s (Refused number place) e h = (refl, refl, refl)
 
+told-at-most-six : (card : List ℕ) {number place : ℕ} → Told card number place → number ≤ 6
+told-at-most-six card (one h) = omega arith
+told-at-most-six card (two f h) = omega arith
+told-at-most-six card (three f b h) = omega arith
+told-at-most-six card (four t l) = omega arith
+told-at-most-six card (five o l) = omega arith
+told-at-most-six card (six t h) = omega arith
+told-at-most-six card (sound s) = omega arith
+
 module _ (card : List ℕ) where
+  -- "Every card, sound or spoiled, gets exactly one numbered answer": one of 0 to 6,
+  pub every-card-gets-a-number : checking card .number ≤ 6
+  every-card-gets-a-number = told-at-most-six card (answer→told card)
+
+  -- and no second answer, nor a second note, meets the contract.
+  pub no-second-answer : {r s : Checked} → r ≡ checking card → s ≡ checking card → r ≡ s
+  no-second-answer e f = e ∙ sym f
+
+  pub no-second-note : {r s : List ℕ} → r ≡ noteOf card → s ≡ noteOf card → r ≡ s
+  no-second-note e f = e ∙ sym f
+
   -- "No. | Given when | Place", 1 to 6, and 0 for a sound card: exactly as 01's table tells.
   pub given-exactly-as-the-table-tells :
       (number place : ℕ) → ((checking card .number ≡ number) × (checking card .place ≡ place)) ↔ Told card number place
