@@ -25,8 +25,8 @@ use Rattle.card.specs.Figures.{actsAs, acts, tally}
 use Rattle.card.specs.Findings.{inOrderAs}
 use Rattle.card.specs.Faultless.{Faultless}
 use Rattle.card.specs.Meaning.{Declared, deeds}
-use Rattle.card.proofs.Tests.{both}
-use Rattle.card.proofs.Rowing.{length-row}
+use Rattle.chart.proofs.Tests.{both-true}
+use Rattle.card.proofs.Rows.{length-row}
 
 -- Children lower than their parents, along the row.
 lower-more :
@@ -77,7 +77,7 @@ module _ (lifelines messages : ℕ) where
       → Declared lifelines messages (standsAs k before n)
   declared-as nothing i n before h all = tt
   declared-as (action r) i n before h all =
-      let (l, m) = both (ltb (n .a) lifelines) (ltb (n .b) messages) h in
+      let (l, m) = both-true (ltb (n .a) lifelines) (ltb (n .b) messages) h in
       (ltb-true (n .a) lifelines l, ltb-true (n .b) messages m)
   declared-as (pairs (composed o)) i n before h all = (all (n .a), all (n .b))
   declared-as (pairs choice) i n before h all = (all (n .a), all (n .b))

@@ -1,7 +1,6 @@
 -- Laws of cards. proofs/Promises.antt is the reader's file.
-pub mod Tests
 pub mod Trailers
-pub mod Rowing
+pub mod Rows
 pub mod Lowest
 pub mod Relied
 pub mod Answers

@@ -43,17 +43,17 @@ module _ (lifelines messages i : ℕ) (n : Node) (c : ℕ) where
   -- The nine ways to be at fault.
   by-fault :
       {A : Type 0} → (10 < n .kind → A) → (c ≢ 0 → A) → (n .kind ≡ 0 → n .a ≢ 0 → A) → (n .kind ≡ 0 → n .b ≢ 0 → A)
-      → (7 ≤ n .kind → n .b ≢ 0 → A) → (1 ≤ n .kind → n .kind ≤ 2 → lifelines ≤ n .a → A)
-      → (1 ≤ n .kind → n .kind ≤ 2 → messages ≤ n .b → A) → (3 ≤ n .kind → i ≤ n .a → A)
+      → (7 ≤ n .kind → n .kind ≤ 10 → n .b ≢ 0 → A) → (1 ≤ n .kind → n .kind ≤ 2 → lifelines ≤ n .a → A)
+      → (1 ≤ n .kind → n .kind ≤ 2 → messages ≤ n .b → A) → (3 ≤ n .kind → n .kind ≤ 10 → i ≤ n .a → A)
       → (3 ≤ n .kind → n .kind ≤ 6 → i ≤ n .b → A) → AtFault → A
   by-fault f₁ f₂ f₃ f₄ f₅ f₆ f₇ f₈ f₉ (inl u) = f₁ u
   by-fault f₁ f₂ f₃ f₄ f₅ f₆ f₇ f₈ f₉ (inr (inl (inl h))) = f₂ h
   by-fault f₁ f₂ f₃ f₄ f₅ f₆ f₇ f₈ f₉ (inr (inl (inr (inl (z, inl h))))) = f₃ z h
   by-fault f₁ f₂ f₃ f₄ f₅ f₆ f₇ f₈ f₉ (inr (inl (inr (inl (z, inr h))))) = f₄ z h
-  by-fault f₁ f₂ f₃ f₄ f₅ f₆ f₇ f₈ f₉ (inr (inl (inr (inr (l, h))))) = f₅ l h
+  by-fault f₁ f₂ f₃ f₄ f₅ f₆ f₇ f₈ f₉ (inr (inl (inr (inr (l, u, h))))) = f₅ l u h
   by-fault f₁ f₂ f₃ f₄ f₅ f₆ f₇ f₈ f₉ (inr (inr (inl (l, u, inl h)))) = f₆ l u h
   by-fault f₁ f₂ f₃ f₄ f₅ f₆ f₇ f₈ f₉ (inr (inr (inl (l, u, inr h)))) = f₇ l u h
-  by-fault f₁ f₂ f₃ f₄ f₅ f₆ f₇ f₈ f₉ (inr (inr (inr (inl (l, h))))) = f₈ l h
+  by-fault f₁ f₂ f₃ f₄ f₅ f₆ f₇ f₈ f₉ (inr (inr (inr (inl (l, u, h))))) = f₈ l u h
   by-fault f₁ f₂ f₃ f₄ f₅ f₆ f₇ f₈ f₉ (inr (inr (inr (inr (l, u, h))))) = f₉ l u h
 
   -- In each range of kinds the condition comes down to c and the two fields.
@@ -64,8 +64,8 @@ module _ (lifelines messages i : ℕ) (n : Node) (c : ℕ) where
   of-nothing z = (
     there,
     by-fault (λ u. absurd (omega arith)) inl (λ _ h. inr (inl h)) (λ _ h. inr (inr h))
-        (λ l _. absurd (omega arith)) (λ l u _. absurd (omega arith)) (λ l u _. absurd (omega arith))
-        (λ l _. absurd (omega arith)) (λ l u _. absurd (omega arith)),
+        (λ l u _. absurd (omega arith)) (λ l u _. absurd (omega arith)) (λ l u _. absurd (omega arith))
+        (λ l u _. absurd (omega arith)) (λ l u _. absurd (omega arith)),
   )
     where
       there : c ≢ 0 ⊎ Fields nothing → AtFault
@@ -76,8 +76,8 @@ module _ (lifelines messages i : ℕ) (n : Node) (c : ℕ) where
   of-an-action r low high = (
     there,
     by-fault (λ u. absurd (omega arith)) inl (λ z _. absurd (omega arith)) (λ z _. absurd (omega arith))
-        (λ l _. absurd (omega arith)) (λ _ _ h. inr (inl h)) (λ _ _ h. inr (inr h))
-        (λ l _. absurd (omega arith)) (λ l u _. absurd (omega arith)),
+        (λ l u _. absurd (omega arith)) (λ _ _ h. inr (inl h)) (λ _ _ h. inr (inr h))
+        (λ l u _. absurd (omega arith)) (λ l u _. absurd (omega arith)),
   )
     where
       there : c ≢ 0 ⊎ Fields (action r) → AtFault
@@ -88,27 +88,27 @@ module _ (lifelines messages i : ℕ) (n : Node) (c : ℕ) where
   of-a-pair p low high = (
     there,
     by-fault (λ u. absurd (omega arith)) inl (λ z _. absurd (omega arith)) (λ z _. absurd (omega arith))
-        (λ l _. absurd (omega arith)) (λ l u _. absurd (omega arith)) (λ l u _. absurd (omega arith))
-        (λ _ h. inr (inl h)) (λ _ _ h. inr (inr h)),
+        (λ l u _. absurd (omega arith)) (λ l u _. absurd (omega arith)) (λ l u _. absurd (omega arith))
+        (λ _ _ h. inr (inl h)) (λ _ _ h. inr (inr h)),
   )
     where
       there : c ≢ 0 ⊎ Fields (pairs p) → AtFault
       there (inl h) = inr (inl (inl h))
-      there (inr (inl h)) = inr (inr (inr (inl (low, h))))
+      there (inr (inl h)) = inr (inr (inr (inl (low, omega arith, h))))
       there (inr (inr h)) = inr (inr (inr (inr (low, high, h))))
 
   of-a-loop : (k : Loop) → 7 ≤ n .kind → n .kind ≤ 10 → Same (loops k)
   of-a-loop k low high = (
     there,
     by-fault (λ u. absurd (omega arith)) inl (λ z _. absurd (omega arith)) (λ z _. absurd (omega arith))
-        (λ _ h. inr (inl h)) (λ l u _. absurd (omega arith)) (λ l u _. absurd (omega arith))
-        (λ _ h. inr (inr h)) (λ l u _. absurd (omega arith)),
+        (λ _ _ h. inr (inl h)) (λ l u _. absurd (omega arith)) (λ l u _. absurd (omega arith))
+        (λ _ _ h. inr (inr h)) (λ l u _. absurd (omega arith)),
   )
     where
       there : c ≢ 0 ⊎ Fields (loops k) → AtFault
       there (inl h) = inr (inl (inl h))
-      there (inr (inl h)) = inr (inl (inr (inr (low, h))))
-      there (inr (inr h)) = inr (inr (inr (inl (omega arith, h))))
+      there (inr (inl h)) = inr (inl (inr (inr (low, high, h))))
+      there (inr (inr h)) = inr (inr (inr (inl (omega arith, high, h))))
 
   of-the-unknown : 10 < n .kind → Same unknown
   of-the-unknown low = (λ _. inl low, λ _. inr tt)

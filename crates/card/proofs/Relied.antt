@@ -21,12 +21,12 @@ use Rattle.card.specs.Nodes.{countOf, nodeAt, spareAt}
 use Rattle.card.specs.Figures.{actsAs}
 use Rattle.card.specs.Findings.{within, backInRule, countsInRange, inOrder, inOrderAs, faultOf, faulty}
 use Rattle.card.specs.Faultless.{Faultless}
-use Rattle.card.proofs.Tests.{both}
+use Rattle.chart.proofs.Tests.{both-true}
 use Rattle.card.proofs.Lowest.{fine→none}
 
 pub within→ : (low x high : ℕ) → within low x high ≡ true → (low ≤ x) × (x ≤ high)
 within→ low x high h =
-    let (l, u) = both (leb low x) (leb x high) h in
+    let (l, u) = both-true (leb low x) (leb x high) h in
     (leb-true low x l, leb-true x high u)
 
 -- The back distance in rule.
@@ -38,9 +38,9 @@ pub record InRule (card : List ℕ) : Type 0 where
 
 pub back→ : (card : List ℕ) → backInRule card ≡ true → InRule card
 back→ card h =
-    let (w, rest) = both (eqb (backOf card % 4) 0)
+    let (w, rest) = both-true (eqb (backOf card % 4) 0)
     (within 4 (backOf card) 1020 && leb (backOf card) (trailerAt card)) h in
-    let (r, i) = both (within 4 (backOf card) 1020) (leb (backOf card) (trailerAt card)) rest in
+    let (r, i) = both-true (within 4 (backOf card) 1020) (leb (backOf card) (trailerAt card)) rest in
     let (s, f) = within→ 4 (backOf card) 1020 r in
     record {
       whole = eqb-true (backOf card % 4) 0 w;
@@ -65,10 +65,10 @@ in-order→lower : (k : Kind) (lifelines messages i : ℕ) (n : Node) → inOrde
 in-order→lower nothing lifelines messages i n h = tt
 in-order→lower (action r) lifelines messages i n h = tt
 in-order→lower (pairs p) lifelines messages i n h =
-    let (l, r) = both (ltb (n .a) i) (ltb (n .b) i) h in
+    let (l, r) = both-true (ltb (n .a) i) (ltb (n .b) i) h in
     (ltb-true (n .a) i l, (ltb-true (n .b) i r, tt))
 in-order→lower (loops k) lifelines messages i n h =
-    let (z, l) = both (eqb (n .b) 0) (ltb (n .a) i) h in
+    let (z, l) = both-true (eqb (n .b) 0) (ltb (n .a) i) h in
     (ltb-true (n .a) i l, tt)
 in-order→lower unknown lifelines messages i n h = tt
 
@@ -77,7 +77,7 @@ in-order→held :
     → inOrderAs k lifelines messages i n ≡ true → T (actsAs k n d) → d < lifelines
 in-order→held nothing lifelines messages i n d h acts = absurd acts
 in-order→held (action r) lifelines messages i n d h acts =
-    let (l, m) = both (ltb (n .a) lifelines) (ltb (n .b) messages) h in
+    let (l, m) = both-true (ltb (n .a) lifelines) (ltb (n .b) messages) h in
     omega (arith, ltb-true (n .a) lifelines l, eqb→eq (n .a) d acts)
 in-order→held (pairs p) lifelines messages i n d h acts = absurd acts
 in-order→held (loops k) lifelines messages i n d h acts = absurd acts
@@ -104,7 +104,7 @@ faultless card rule few fine =
     let order : (i : ℕ) → i < countOf nodes
     → inOrderAs (kindOf (nodeAt nodes i .kind)) lines messages i (nodeAt nodes i) ≡ true
     = λ i h.
-    (both (eqb (spareAt nodes i) 0) (inOrderAs (kindOf (nodeAt nodes i .kind)) lines messages i (nodeAt nodes i))
+    (both-true (eqb (spareAt nodes i) 0) (inOrderAs (kindOf (nodeAt nodes i .kind)) lines messages i (nodeAt nodes i))
     (no-fault→ lines messages nodes i (fine→none (faultOf lines messages nodes) (countOf nodes) fine i h))) .1 in
     record {
       some = omega (arith, length-nodes card rule, rule .some);
@@ -133,5 +133,5 @@ found-of-the-card card nodes lifelines messages el em en h = sym (rw (el, em, en
 
 pub few-lifelines : (card : List ℕ) → countsInRange card ≡ true → lifelinesOf card ≤ 16
 few-lifelines card h =
-    let (l, m) = both (within 1 (lifelinesOf card) 16) (within 1 (messagesOf card) 64) h in
+    let (l, m) = both-true (within 1 (lifelinesOf card) 16) (within 1 (messagesOf card) 64) h in
     (within→ 1 (lifelinesOf card) 16 l) .1

@@ -24,7 +24,7 @@ use Rattle.card.specs.Checking.{checking, soundness}
 use Rattle.card.specs.Faultless.{Faultless}
 use Rattle.card.specs.Table.{Trailed, Ordered, Tree, Sound, Told, NoCard, BackOut, FaultAt, MisuseAt, count}
 use Rattle.card.specs.Table.Told.{one, two, three, four, five, six, sound}
-use Rattle.card.proofs.Tests.{both}
+use Rattle.chart.proofs.Tests.{both-true}
 use Rattle.card.proofs.Relied.{InRule, back→, few-lifelines, faultless}
 use Rattle.card.proofs.Decided.{Decided, if-not, if-so}
 use Rattle.card.proofs.Deciding.{at-least-six, framed-decided, back-decided, counts-decided}
@@ -199,7 +199,7 @@ module _ (card : List ℕ) where
   sound→orderly s i h =
       let o = s .tree .ordered in
       let t = o .trailed in
-      (both (eqb (spareAt nodes i) 0) (inOrderAs (kindOf (nodeAt nodes i .kind)) (lifelinesOf card)
+      (both-true (eqb (spareAt nodes i) 0) (inOrderAs (kindOf (nodeAt nodes i .kind)) (lifelinesOf card)
       (messagesOf card) i (nodeAt nodes i))
       (if-not (each-order-decided t i h) (o .nodes i (omega (arith, counted-alike t))))) .1
 

@@ -1,5 +1,5 @@
--- The figures of a sound card: its number of nodes, its depth, and the number of different lifelines that act in it
--- (01, The chart card).
+-- The figures of a sound card beside its number of nodes: its depth, and the number of different lifelines that act
+-- in it (01, The chart card).
 -- Assumes nothing.
 use Prim.Native.Nat.{ℕ, zero, suc, _+_}
 use mathlib.Core.Bool.{Bool, false, cond, _||_}

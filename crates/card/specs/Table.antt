@@ -1,5 +1,5 @@
 -- Numbers 1 to 6 of the table in 01, "Verdicts and numbers given", a second time: as conditions on the bytes, in the
--- table's words and order, with nothing shared with `Checking` but the charts of a row. proofs/Telling.antt shows
+-- table's words and order, with nothing shared with `Checking` but the card's row of nodes and its chart. proofs/Telling.antt shows
 -- that both say the same.
 -- Assumes nothing.
 use Prim.Native.Nat.{ℕ, _+_, _-_, _*_, _/_, _%_, _<_, _≤_}
@@ -54,7 +54,7 @@ UnknownKind kind = 10 < kind
 
 -- a non-zero unused field (c; a and b of kind 0; b of kinds 7 to 10),
 abbrev pub UnusedSet : ℕ → ℕ → ℕ → ℕ → Type 0
-UnusedSet kind a b c = c ≢ 0 ⊎ (kind ≡ 0 × (a ≢ 0 ⊎ b ≢ 0)) ⊎ (7 ≤ kind × b ≢ 0)
+UnusedSet kind a b c = c ≢ 0 ⊎ (kind ≡ 0 × (a ≢ 0 ⊎ b ≢ 0)) ⊎ (7 ≤ kind × kind ≤ 10 × b ≢ 0)
 
 -- a lifeline or message not declared (kinds 1 and 2),
 abbrev pub Undeclared : ℕ → ℕ → ℕ → ℕ → ℕ → Type 0
@@ -62,7 +62,7 @@ Undeclared lifelines messages kind a b = 1 ≤ kind × kind ≤ 2 × (lifelines 
 
 -- or a child not lower than itself (a of kinds 3 to 10, b of kinds 3 to 6).
 abbrev pub NotLower : ℕ → ℕ → ℕ → ℕ → Type 0
-NotLower i kind a b = (3 ≤ kind × i ≤ a) ⊎ (3 ≤ kind × kind ≤ 6 × i ≤ b)
+NotLower i kind a b = (3 ≤ kind × kind ≤ 10 × i ≤ a) ⊎ (3 ≤ kind × kind ≤ 6 × i ≤ b)
 
 -- A node is at fault.
 abbrev pub Fault : ℕ → ℕ → ℕ → ℕ → ℕ → ℕ → ℕ → Type 0

@@ -29,3 +29,8 @@ either←right false q h = h
 pub passes : (p : Bool) → T p → p ≡ true
 passes true h = refl
 passes false h = absurd h
+
+-- two tests that are both true
+pub both-true : (p q : Bool) → (p && q) ≡ true → (p ≡ true) × (q ≡ true)
+both-true true q h = (refl, h)
+both-true false q h = (h, cc)

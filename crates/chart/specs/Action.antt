@@ -25,8 +25,8 @@ same a b = eqb (a .line) (b .line) && Bool·beq (a .receives) (b .receives) && e
 abbrev pub Clash : ℕ → ℕ → Type 0
 Clash l d = l ≡ d
 
--- Every action of the log has the property.
-abbrev pub Every : (Action → Type 0) → Log → Type 0
+-- Every member of the list has the property.
+abbrev pub Every : {A : Type 0} → (A → Type 0) → List A → Type 0
 Every P [] = Unit
 Every P (a ∷ s) = P a × Every P s
 

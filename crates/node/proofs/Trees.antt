@@ -14,6 +14,7 @@ use lib.Dec.{eqb}
 use borrow.Author.Tests.{eq-eqb, ne-eqb}
 use lib.ListN.{length, getD, length-append}
 use lib.Seq.{getD-at}
+use Rattle.chart.specs.Action.{Every}
 use Rattle.chart.specs.Chart.{Chart, size}
 use Rattle.chart.specs.Chart.Chart.{empty}
 use Rattle.node.specs.declared.Node.{Node}
@@ -27,11 +28,6 @@ use Rattle.node.proofs.Rows.{chartsAfter-keeps}
 abbrev pub LowerFrom : ℕ → List Node → Type 0
 LowerFrom i [] = Unit
 LowerFrom i (n ∷ row) = Below i (children n) × LowerFrom (suc i) row
-
--- Every node of the row has the property.
-abbrev pub Every : (Node → Type 0) → List Node → Type 0
-Every P [] = Unit
-Every P (n ∷ row) = P n × Every P row
 
 -- A sum over the numbers below n, and over a list of numbers.
 abbrev sumTo : (ℕ → ℕ) → ℕ → ℕ

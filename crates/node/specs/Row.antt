@@ -7,6 +7,7 @@ use mathlib.Core.Bool.{cond}
 use mathlib.Core.List.{List, [], _∷_, _++_}
 use lib.Dec.{eqb}
 use lib.ListN.{length, getD}
+use Rattle.chart.specs.Action.{Every}
 use Rattle.chart.specs.Chart.{Chart}
 use Rattle.chart.specs.Chart.Chart.{empty, act, loop}
 use Rattle.node.specs.declared.Node.{Node}
@@ -53,8 +54,7 @@ children n = childrenAs (kindOf (n .kind)) n
 
 -- Every number of the list is below n.
 abbrev pub Below : ℕ → List ℕ → Type 0
-Below n [] = Unit
-Below n (k ∷ ks) = (k < n) × Below n ks
+Below n ks = Every (λ k. k < n) ks
 
 -- How many of the numbers are j.
 abbrev pub times : ℕ → List ℕ → ℕ

@@ -15,7 +15,7 @@ use Rattle.node.specs.declared.Node.{Node}
 use Rattle.node.specs.Kind.{Kind, kindOf}
 use Rattle.node.specs.Kind.Kind.{nothing, action, pairs, loops, unknown}
 use Rattle.node.specs.Row.{children, childrenAs, times, uses, Below}
-use Rattle.card.proofs.Rowing.{length-row}
+use Rattle.card.proofs.Rows.{length-row}
 use Rattle.card.specs.Nodes.{nodeAt, rowTo}
 use Rattle.card.specs.Findings.{misuseOf}
 use Rattle.scan.specs.Counting.{oneMore, oneMoreEach}

@@ -14,7 +14,7 @@ use Rattle.node.specs.Row.{stands, charts, children, highest, Below}
 use Rattle.node.proofs.Rows.{charts-more, length-charts, depth-stands}
 use Rattle.card.specs.Nodes.{nodeAt, rowTo, rowOf, countOf}
 use Rattle.card.specs.Figures.{depthOf}
-use Rattle.card.proofs.Rowing.{length-row}
+use Rattle.card.proofs.Rows.{length-row}
 
 highest-at-most : (f : ℕ → ℕ) (m : ℕ) (ks : List ℕ) → ((j : ℕ) → f j ≤ m) → highest f ks ≤ m
 highest-at-most f m [] h = omega arith

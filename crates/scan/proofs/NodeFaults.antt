@@ -1,4 +1,4 @@
--- The fault of one node, and what the absence of faults leaves to rely on.
+-- The fault of one node, by what was read of it.
 -- Assumes nothing.
 use Prim.Native.Nat.{ℕ}
 use mathlib.Core.Bool.{Bool, cond}
