@@ -1,5 +1,6 @@
 -- Laws of nodes and places.
 pub mod Packing
 pub mod Ranges
+pub mod Numbering
 pub mod Rows
 pub mod Trees

@@ -9,7 +9,7 @@ use native.Mathlib.Decide.{decLe}
 use native.Mathlib.Omega.{arith}
 use lib.ListN.{length, getD, take, drop, List·getD-eq-default}
 use lib.Seq.{getD-take, getD-drop}
-use Rattle.chart.specs.Chart.{Loop}
+use Rattle.chart.specs.Chart.{Order, Loop}
 use Rattle.chart.specs.Chart.Order.{strict, seq, par}
 use Rattle.chart.specs.Chart.Loop.{each, head}
 use Rattle.node.specs.declared.Node.{Node}
@@ -48,9 +48,33 @@ pub three-to-six-are-pairs : (k : ℕ) → 3 ≤ k → k ≤ 6 → (p : Pair) ×
 three-to-six-are-pairs k low high =
     listed pairs (composed strict ∷ composed seq ∷ composed par ∷ choice ∷ []) 3 refl k low (omega arith)
 
+pub three-to-five-are-orders : (k : ℕ) → 3 ≤ k → k ≤ 5 → (o : Order) × (kindOf k ≡ pairs (composed o))
+three-to-five-are-orders k low high =
+    listed (λ o. pairs (composed o)) (strict ∷ seq ∷ par ∷ []) 3 refl k low (omega arith)
+
+pub strict-is-three : kindOf 3 ≡ pairs (composed strict)
+unfolding kindOf
+strict-is-three = refl
+
+pub seq-is-four : kindOf 4 ≡ pairs (composed seq)
+unfolding kindOf
+seq-is-four = refl
+
+pub par-is-five : kindOf 5 ≡ pairs (composed par)
+unfolding kindOf
+par-is-five = refl
+
+pub six-is-the-choice : (k : ℕ) → k ≡ 6 → kindOf k ≡ pairs choice
+unfolding kindOf
+six-is-the-choice k e = rw e
+
 pub seven-to-ten-are-loops : (k : ℕ) → 7 ≤ k → k ≤ 10 → (l : Loop) × (kindOf k ≡ loops l)
 seven-to-ten-are-loops k low high =
     listed loops (each strict ∷ head ∷ each seq ∷ each par ∷ []) 7 refl k low (omega arith)
+
+pub weak-is-nine : kindOf 9 ≡ loops (each seq)
+unfolding kindOf
+weak-is-nine = refl
 
 pub above-ten-is-unknown : (k : ℕ) → 11 ≤ k → kindOf k ≡ unknown
 unfolding kindOf

@@ -1,18 +1,19 @@
 -- Charts of a row of nodes: one more node adds one chart and changes none before it; there are as many charts as nodes.
 -- All by induction on the row, over any charts before it.
 -- Assumes nothing.
-use Prim.Native.Nat.{ℕ, _+_, _<_}
+use Prim.Native.Nat.{ℕ, suc, _+_, _<_}
 use mathlib.Core.List.{List, [], _∷_, _++_}
-use mathlib.Core.Path.{_≡_, refl, _∙_}
+use mathlib.Core.Path.{_≡_, refl, ap, sym, _∙_}
 use native.Mathlib.Omega.{arith}
-use lib.ListN.{length, getD, length-append, List·getD-append}
+use lib.ListN.{length, getD, take, drop, length-append, List·getD-append}
+use lib.Seq.{split-at, append-snoc, length-take-le, getD-at}
 use Rattle.chart.specs.Chart.{Chart, depth}
 use Rattle.chart.specs.Chart.Chart.{empty}
 use Rattle.node.specs.declared.Node.{Node}
 use Rattle.node.specs.Kind.{Kind, kindOf}
 use Rattle.node.specs.Kind.Pair.{composed, choice}
 use Rattle.node.specs.Kind.Kind.{nothing, action, pairs, loops, unknown}
-use Rattle.node.specs.Row.{stands, standsAs, chartsAfter, charts, children, childrenAs, highest}
+use Rattle.node.specs.Row.{stands, standsAs, chartsAfter, charts, children, childrenAs, highest, Below}
 
 chartsAfter-append :
     (before : List Chart) (row more : List Node)
@@ -57,6 +58,39 @@ unfolding charts
 charts-keep row more j h =
     rw (chartsAfter-append [] row more)
     (chartsAfter-keeps (chartsAfter [] row) more j (omega (arith, length-chartsAfter [] row)))
+
+-- A node stands for the same chart among charts that agree where its children are.
+stands-as-before :
+    (k : Kind) (before all : List Chart) (n : Node) (p : ℕ) → Below p (childrenAs k n)
+    → ((j : ℕ) → j < p → getD all j empty ≡ getD before j empty) → standsAs k all n ≡ standsAs k before n
+stands-as-before nothing before all n p low agree = refl
+stands-as-before (action r) before all n p low agree = refl
+stands-as-before (pairs q) before all n p (a, (b, none)) agree = rw (agree (n .a) a, agree (n .b) b)
+stands-as-before (loops l) before all n p (a, none) agree = rw (agree (n .a) a)
+stands-as-before unknown before all n p low agree = refl
+
+pub stands-alike :
+    (before all : List Chart) (n : Node) (p : ℕ) → Below p (children n)
+    → ((j : ℕ) → j < p → getD all j empty ≡ getD before j empty) → stands all n ≡ stands before n
+stands-alike before all n p low agree = stands-as-before (kindOf (n .kind)) before all n p low agree
+
+-- What stands at p, if its children are lower, is the chart of that node among all charts of the row.
+pub charts-at :
+    (row : List Node) (p : ℕ) (d : Node) → p < length row → Below p (children (getD row p d))
+    → getD (charts row) p empty ≡ stands (charts row) (getD row p d)
+charts-at row p d h low =
+    let n = getD row p d in
+    let before = take p row in
+    let after = drop (suc p) row in
+    let long : length before ≡ p = length-take-le p row (omega arith) in
+    let split : row ≡ before ++ (n ∷ after) = split-at row p d h in
+    let snoc : before ++ (n ∷ []) ++ after ≡ before ++ n ∷ after = append-snoc before n after in
+    let keep : (j : ℕ) → j < p → getD (charts row) j empty ≡ getD (charts before) j empty
+    = λ j l. ap (λ r. getD (charts r) j empty) split ∙ charts-keep before (n ∷ after) j (omega arith) in
+    let more = charts-keep (before ++ (n ∷ [])) after p (omega (arith, length-append before (n ∷ []))) in
+    let last = getD-at (charts before) (stands (charts before) n) [] empty p (length-charts before ∙ long) in
+    ap (λ r. getD (charts r) p empty) (split ∙ sym snoc) ∙ more ∙ ap (λ r. getD r p empty) (charts-more before n) ∙ last
+    ∙ sym (stands-alike (charts before) (charts row) n p low keep)
 
 depth-as : (k : Kind) (before : List Chart) (n : Node)
     → depth (standsAs k before n) ≡ 1 + highest (λ j. depth (getD before j empty)) (childrenAs k n)

@@ -1,0 +1,2 @@
+-- Working definitions of executing.
+pub mod Passing

@@ -1,0 +1,65 @@
+use mathlib.Core.Path.{ap, sym}
+use native.Mathlib.Omega.{arith}
+use lib.ListN.{set, length-set}
+use Rattle.room.proofs.Adding.{root-inside, root-beyond, nothing-added}
+use borrow.Author.Needs.{needs}
+use Rattle.places.proofs.add.Statement.{statement}
+use Rattle.places.proofs.add.Tie as tie
+use Rattle.places.proofs.add.Reads as reads
+use Rattle.places.proofs.add.Lts as lts
+use Rattle.node.proofs.Node.pack.Reads as pack-reads
+
+pack-requires : tie.Need-pack-requires
+pack-requires c κs =
+    tt
+
+mul-room : tie.Need-mul-room
+mul-room c =
+    omega (arith, c .before .before .before .pre .usable)
+
+slice-write-room : tie.Need-slice-write-room
+slice-write-room c =
+    omega arith
+
+add-t7 : tie.Need-add-t7
+add-t7 c =
+    omega (arith, c .before .before .before .pre .usable)
+
+same-length : tie.Need-same-length
+same-length c =
+    length-set (c .before .before .before .args .room .now) (c .before .before .before .args .used) (c .pack .result)
+
+returns : tie.Need-returns
+returns c =
+    let s = c .before .before .before .args in
+    (sym (root-inside (s .room .now) (s .used) (omega arith)), ap (set (s .room .now) (s .used)) (c .pack .ensures))
+
+cast-t10 : tie.Need-cast-t10
+cast-t10 c =
+    omega (arith, c .before .before .pre .usable)
+
+add-t11 : tie.Need-add-t11
+add-t11 c =
+    omega (arith, c .before .before .pre .usable)
+
+returns-2 : tie.Need-returns-2
+returns-2 c =
+    let s = c .before .before .args in
+    let full = c .if1 .left in (
+      sym (root-beyond (s .room .now) (s .used) (omega arith)),
+      sym (nothing-added (s .room .now) (s .used) (s .node) (omega arith)),
+    )
+
+pub add-spec : {M : Type 1} → statement M
+add-spec =
+    tie.close
+    (tie.spec
+    pack-requires
+    mul-room
+    slice-write-room
+    add-t7
+    same-length
+    returns
+    cast-t10
+    add-t11
+    returns-2)

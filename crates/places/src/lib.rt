@@ -1,0 +1,37 @@
+// Places of a room, read and written. These functions alone touch its numbers.
+ghost use mathlib.Core.Path.{_≡_};
+ghost use mathlib.Core.List.{_++_, map};
+ghost use Prim.Native.Nat.{_<_, _≤_};
+ghost use lib.ListN.{length, drop};
+ghost use Rattle.room.specs.Room.{nodeIn, Table};
+ghost use Rattle.room.specs.Building.{added, rootAt};
+use node::Node;
+use room::Root;
+
+// The node at a place.
+pub fn read(room: &[u32], place: u32) -> Node
+    requires { ⌜ place < length (now room) ⌝ }
+    ensures { λ r. ⌜ r ≡ nodeIn (now (room .entry)) place ⌝ }
+{
+    let at = place as usize;
+    Node::unpack(room[at])
+}
+
+// A node more, in the first place that is not in use. A room that is full stays as it is, and is counted as exceeded.
+pub fn add(room: &mut [u32], node: Node, used: u32) -> Root
+    requires { ⌜ Table (now room) used ⌝ }
+    ensures { λ r. ⌜ r ≡ rootAt (now (room .entry)) used × now (room .exit) ≡ added (now (room .entry)) used node ⌝ }
+{
+    let at = used as usize;
+    if at < room.len() {
+        room[at] = node.pack();
+        return Root {
+            place: used,
+            used: used + 1,
+        };
+    }
+    Root {
+        place: used,
+        used: room.len() as u32 + 1,
+    }
+}

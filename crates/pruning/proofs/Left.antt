@@ -1,0 +1,212 @@
+-- What is left of a pair and of a loop is what pruning leaves, by cases on what is left of their parts: the chart, and
+-- what it costs. A side that was pruned and is not wanted leaves only numbers above the places in use.
+-- Assumes nothing.
+use Prim.Native.Nat.{ℕ, suc, _<_, _≤_}
+use mathlib.Core.Bool.{Bool, true, false, not}
+use mathlib.Core.Logic.{_≢_}
+use mathlib.Core.List.{List}
+use mathlib.Core.Path.{_≡_, refl, ap, sym, subst, _∙_}
+use native.Mathlib.Decide.{ℕ-discrete}
+use native.Mathlib.Omega.{arith}
+use lib.Dec.{eqb}
+use borrow.Author.Tests.{eq-eqb, ne-eqb}
+use lib.ListN.{length}
+use Rattle.chart.specs.Chart.{Chart, Order, Loop}
+use Rattle.chart.specs.Chart.Chart.{empty, act, alt, pair, loop}
+use Rattle.chart.specs.Executing.{evades, prune}
+use Rattle.chart.specs.Executing.Made.{kept}
+use Rattle.node.specs.declared.Node.{Node}
+use Rattle.node.specs.Kind.{kindOf}
+use Rattle.node.specs.Kind.Pair.{composed, choice}
+use Rattle.node.specs.Kind.Kind.{pairs, loops}
+use Rattle.node.proofs.Ranges.{six-is-the-choice}
+use Rattle.room.specs.declared.Pruned.{Pruned}
+use Rattle.room.specs.declared.Pruned.the-variants.{Part, Nothing}
+use Rattle.room.specs.Room.{nodeIn, chartIn, Table, Rooted, Kept}
+use Rattle.room.specs.Building.{Builds, Prunes}
+use Rattle.room.proofs.Standing.{kept-self, kept-chart, kept-then, kept-table, table-less}
+use Rattle.room.proofs.Apart.{
+  table-rooted,
+  empty-here,
+  action-here,
+  order-here,
+  alt-here,
+  loop-here,
+  unknown-here,
+  left-lower,
+  right-lower,
+  body-lower,
+}
+use Rattle.room.proofs.Adding.{
+  builds-more,
+  pair-builds,
+  loop-builds,
+  empty-builds,
+  kept-builds,
+  builds-kept,
+  kept-then-builds,
+}
+use Rattle.pruning.specs.Sides.{above, pairOf, pairIn, loopOf, loopIn}
+
+module _ (before : List ℕ) (used : ℕ) (c : Chart) (d : ℕ) (after : List ℕ) where
+  -- Pruning keeps what was in use, and what is in use afterwards is a table.
+  pub prunes-keeps : (p : Pruned) → Prunes before used c d after p → Kept used before after
+  prunes-keeps (Part root) (e, b) = b .kept
+  prunes-keeps Nothing (e, keeps) = keeps
+
+  pub prunes-table : (p : Pruned) → Table before used → Prunes before used c d after p → Table after (above p used)
+  prunes-table (Part root) table (e, b) = b .held .table
+  prunes-table Nothing table (e, keeps) = kept-table used before after keeps table
+
+  -- The part that is left, if any, is in a table.
+  pub prunes-part-table : (p : Pruned) → Table before used → Prunes before used c d after p → Table after (above p 0)
+  prunes-part-table (Part root) table (e, b) = b .held .table
+  prunes-part-table Nothing table (e, keeps) =
+      table-less after used 0 (omega arith) (kept-table used before after keeps table)
+
+  pub prunes-more : (p : Pruned) → Table before used → Prunes before used c d after p → used ≤ above p used
+  prunes-more (Part root) table (e, b) = builds-more b (table .counted)
+  prunes-more Nothing table (e, keeps) = omega arith
+
+-- What is kept as it stands: an empty and an action.
+pub leaf-pruned :
+    (room : List ℕ) (used place d : ℕ) → Table room used → place < used → evades (chartIn room place) d ≡ true
+    → prune (chartIn room place) d ≡ kept (chartIn room place)
+    → Prunes room used (chartIn room place) d room (Part (record { place = place; used = used }))
+leaf-pruned room used place d table below evading as-it-stands =
+    (evading, rw as-it-stands (kept-builds room used place table (λ h. below)))
+
+pub empty-pruned :
+    (room : List ℕ) (used place d : ℕ) → Table room used → place < used → chartIn room place ≡ empty
+    → Prunes room used (chartIn room place) d room (Part (record { place = place; used = used }))
+unfolding prune
+empty-pruned room used place d table below e =
+    leaf-pruned room used place d table below (ap (λ c. evades c d) e)
+    (ap (λ c. prune c d) e ∙ ap kept (sym e))
+
+module _ (before middle room : List ℕ) (used d : ℕ) (l r : Chart) (table : Table before used) where
+  pub order-pruned :
+      (o : Order) (kind : ℕ) → kindOf kind ≡ pairs (composed o) → eqb kind 6 ≡ false → (left right : Pruned)
+      → Prunes before used l d middle left → Prunes middle (above left used) r d room right
+      → Prunes before used (pair o l r) d (pairIn room kind left right) (pairOf room kind left right)
+  unfolding prune
+  order-pruned o kind e six (Part a) (Part b) (le, lb) (re, rb) =
+      (rw (le, re), pair-builds lb (composed o) kind (table .counted) e rb)
+  order-pruned o kind e six (Part a) Nothing (le, lb) (re, keeps) =
+      rw six (rw (le, re), kept-then used (a .used) before middle room (builds-more lb (table .counted)) (lb .kept) keeps)
+  order-pruned o kind e six Nothing right (le, keeps) rest =
+      rw six (rw le, kept-then used used before middle room (omega arith) keeps (prunes-keeps middle used r d room right rest))
+
+  pub alt-pruned :
+      (kind : ℕ) → kind ≡ 6 → (left right : Pruned) → Prunes before used l d middle left
+      → Prunes middle (above left used) r d room right
+      → Prunes before used (alt l r) d (pairIn room kind left right) (pairOf room kind left right)
+  unfolding prune
+  alt-pruned kind six (Part a) (Part b) (le, lb) (re, rb) =
+      (rw le, rw (le, re) (pair-builds lb choice kind (table .counted) (six-is-the-choice kind six) rb))
+  alt-pruned kind six (Part a) Nothing (le, lb) (re, keeps) =
+      rw (eq-eqb kind 6 six)
+      (rw le, rw (le, re) (builds-kept lb (builds-more lb (table .counted)) keeps))
+  alt-pruned kind six Nothing (Part b) (le, keeps) (re, rb) =
+      rw (eq-eqb kind 6 six) (rw (le, re), rw le (kept-then-builds (table .counted) keeps rb))
+  alt-pruned kind six Nothing Nothing (le, keeps) (re, still) =
+      rw (eq-eqb kind 6 six) (rw (le, re), kept-then used used before middle room (omega arith) keeps still)
+
+-- A loop always evades, and becomes the loop of what is left of its body, or empty.
+pub loop-pruned :
+    (before room : List ℕ) (used d : ℕ) (b : Chart) (k : Loop) (kind : ℕ) → Table before used → kindOf kind ≡ loops k
+    → (body : Pruned) → Prunes before used b d room body
+    → Builds before used (prune (loop k b) d) (loopIn room kind body used) (loopOf room body used)
+unfolding prune
+loop-pruned before room used d b k kind table e (Part root) (be, bb) = rw be (loop-builds bb k kind (table .counted) e)
+loop-pruned before room used d b k kind table e Nothing (be, keeps) =
+    rw be
+    (kept-then-builds (table .counted) keeps (empty-builds room used (kept-table used before room keeps table)))
+
+-- At a place, by the ranges of kinds over which the code decides.
+module _ (before : List ℕ) (used place d : ℕ) (table : Table before used) (root : Rooted before place)
+    (below : place < used) (n : Node) (here : n ≡ nodeIn before place) where
+  abbrev itself : Pruned
+  itself = Part (record { place = place; used = used })
+
+  pub at-an-empty : n .kind ≡ 0 → Prunes before used (chartIn before place) d before itself
+  at-an-empty k = empty-pruned before used place d table below (empty-here before place root n here k)
+
+  pub at-the-unknown : 11 ≤ n .kind → Prunes before used (chartIn before place) d before itself
+  at-the-unknown k = empty-pruned before used place d table below (unknown-here before place root n here k)
+
+  evades-here : 1 ≤ n .kind → n .kind ≤ 2 → evades (chartIn before place) d ≡ not (eqb (n .a) d)
+  evades-here low high =
+      let (r, e, acts) = action-here before place root n here low high in
+      ap (λ c. evades c d) acts
+
+  pub at-another-action :
+      1 ≤ n .kind → n .kind ≤ 2 → n .a ≢ d → Prunes before used (chartIn before place) d before itself
+  unfolding prune
+  at-another-action low high other =
+      let (r, e, acts) = action-here before place root n here low high in
+      leaf-pruned before used place d table below (evades-here low high ∙ ap not (ne-eqb (n .a) d other))
+      (ap (λ c. prune c d) acts ∙ ap kept (sym acts))
+
+  pub at-an-action-on-it :
+      1 ≤ n .kind → n .kind ≤ 2 → n .a ≡ d → Prunes before used (chartIn before place) d before Nothing
+  at-an-action-on-it low high same =
+      (evades-here low high ∙ ap not (eq-eqb (n .a) d same), kept-self used before)
+
+  -- The left side, and then the right side above it.
+  pub asks-left : 3 ≤ n .kind → n .kind ≤ 6 → Table before used × Rooted before (n .a) × n .a < used
+  asks-left low high = let (a, there) = left-lower before place root n here low high in (table, there, omega arith)
+
+  module _ (middle : List ℕ) (left : Pruned) (on-left : Prunes before used (chartIn before (n .a)) d middle left) where
+    keeps-left : Kept used before middle
+    keeps-left = prunes-keeps before used (chartIn before (n .a)) d middle left on-left
+
+    pub above-left : Table middle (above left used)
+    above-left = prunes-table before used (chartIn before (n .a)) d middle left table on-left
+
+    more-left : used ≤ above left used
+    more-left = prunes-more before used (chartIn before (n .a)) d middle left table on-left
+
+    pub asks-right :
+        3 ≤ n .kind → n .kind ≤ 6 → Table middle (above left used) × Rooted middle (n .b) × n .b < above left used
+    asks-right low high =
+        let (b, there) = right-lower before place root n here low high in
+        let inside : n .b < length middle = omega (arith, there .inside, keeps-left .long) in
+        (above-left, table-rooted middle (above left used) (n .b) above-left (omega (arith, more-left)) inside, omega (arith, more-left))
+
+    module _ (room : List ℕ) (right : Pruned)
+        (on-right : Prunes middle (above left used) (chartIn middle (n .b)) d room right) where
+      pub above-right : Table room (above right 0)
+      above-right = prunes-part-table middle (above left used) (chartIn middle (n .b)) d room right above-left on-right
+
+      pub at-a-pair :
+          3 ≤ n .kind → n .kind ≤ 6
+          → Prunes before used (chartIn before place) d (pairIn room (n .kind) left right) (pairOf room (n .kind) left right)
+      at-a-pair low high = by (ℕ-discrete (n .kind) 6)
+        where
+          right-there : chartIn middle (n .b) ≡ chartIn before (n .b)
+          right-there =
+              let (b, there) = right-lower before place root n here low high in
+              kept-chart used before middle keeps-left (n .b) (omega arith) (there .inside)
+
+          by : Dec (n .kind ≡ 6)
+              → Prunes before used (chartIn before place) d (pairIn room (n .kind) left right) (pairOf room (n .kind) left right)
+          by (yes six) =
+              rw (alt-here before place root n here six)
+              (alt-pruned before middle room used d (chartIn before (n .a)) (chartIn before (n .b)) table (n .kind) six left right
+              on-left (rw right-there at on-right))
+          by (no other) =
+              let (o, e, whole) = order-here before place root n here low (omega arith) in
+              rw whole
+              (order-pruned before middle room used d (chartIn before (n .a)) (chartIn before (n .b)) table o (n .kind) e
+              (ne-eqb (n .kind) 6 other) left right on-left (rw right-there at on-right))
+
+  pub asks-body : 7 ≤ n .kind → n .kind ≤ 10 → Table before used × Rooted before (n .a) × n .a < used
+  asks-body low high = let (a, there) = body-lower before place root n here low high in (table, there, omega arith)
+
+  pub at-a-loop :
+      (room : List ℕ) (body : Pruned) → 7 ≤ n .kind → n .kind ≤ 10 → Prunes before used (chartIn before (n .a)) d room body
+      → Prunes before used (chartIn before place) d (loopIn room (n .kind) body used) (Part (loopOf room body used))
+  at-a-loop room body low high on-body =
+      let (k, e, whole) = loop-here before place root n here low high in
+      rw whole (refl, loop-pruned before room used d (chartIn before (n .a)) k (n .kind) table e body on-body)

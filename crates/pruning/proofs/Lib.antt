@@ -1,0 +1,2 @@
+-- Laws of pruning in a room.
+pub mod Left

@@ -1,0 +1,2 @@
+-- Working definitions of pruning.
+pub mod Sides

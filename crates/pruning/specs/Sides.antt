@@ -1,0 +1,36 @@
+-- What is left of a pair and of a loop by what is left of their parts, and the room afterwards: working definitions,
+-- which proofs/Left.antt shows to be pruning.
+-- Assumes nothing.
+use Prim.Native.Nat.{ℕ}
+use mathlib.Core.Bool.{cond}
+use mathlib.Core.List.{List}
+use lib.Dec.{eqb}
+use Rattle.node.specs.declared.Node.{Node}
+use Rattle.room.specs.declared.Root.{Root}
+use Rattle.room.specs.declared.Pruned.{Pruned}
+use Rattle.room.specs.declared.Pruned.the-variants.{Part, Nothing}
+use Rattle.room.specs.Building.{added, rootAt}
+
+-- The places in use with what was pruned, from `used` on.
+abbrev pub above : Pruned → ℕ → ℕ
+above (Part root) used = root .used
+above Nothing used = used
+
+-- Of an alt (kind 6) either side is left, of any other pair both or nothing.
+abbrev pub pairOf : List ℕ → ℕ → Pruned → Pruned → Pruned
+pairOf room kind (Part a) (Part b) = Part (rootAt room (b .used))
+pairOf room kind (Part a) Nothing = cond (eqb kind 6) (Part a) Nothing
+pairOf room kind Nothing right = cond (eqb kind 6) right Nothing
+
+abbrev pub pairIn : List ℕ → ℕ → Pruned → Pruned → List ℕ
+pairIn room kind (Part a) (Part b) = added room (b .used) (record { kind = kind; a = a .place; b = b .place })
+pairIn room kind (Part a) Nothing = room
+pairIn room kind Nothing right = room
+
+-- A loop of what is left of the body, or an empty.
+abbrev pub loopOf : List ℕ → Pruned → ℕ → Root
+loopOf room body used = rootAt room (above body used)
+
+abbrev pub loopIn : List ℕ → ℕ → Pruned → ℕ → List ℕ
+loopIn room kind (Part root) used = added room (root .used) (record { kind = kind; a = root .place; b = 0 })
+loopIn room kind Nothing used = added room used (record { kind = 0; a = 0; b = 0 })

@@ -1,0 +1,152 @@
+// Terminating, evading and pruning (01, "How a log is executed"). Each descends the room by recursion: the place number
+// falls at each call.
+ghost use mathlib.Core.Path.{_≡_};
+ghost use Prim.Native.Nat.{_<_};
+ghost use Rattle.room.specs.Room.{chartIn, Table, Rooted};
+ghost use Rattle.room.specs.Building.{Prunes};
+ghost use Rattle.pruning.specs.Sides.{above, pairOf, pairIn, loopOf, loopIn};
+ghost use Rattle.chart.specs.Executing as chart;
+use node::Node;
+use room::Pruned;
+use room::Root;
+
+// Whether a part terminates.
+pub fn terminates(room: &[u32], place: u32) -> bool
+    requires { ⌜ Rooted (now room) place ⌝ }
+    ensures { λ r. ⌜ r ≡ chart.terminates (chartIn (now (room .entry)) place) ⌝ }
+{
+    let node = places::read(room, place);
+    let kind = node.kind;
+    match kind {
+        Node::EMPTY => true,
+        Node::EMISSION..=Node::RECEPTION => false,
+        Node::STRICT..=Node::PAR => terminates(room, node.a) && terminates(room, node.b),
+        Node::ALT => terminates(room, node.a) || terminates(room, node.b),
+        Node::STRICT_LOOP..=Node::PAR_LOOP => true,
+        _ => true,
+    }
+}
+
+// Whether a part evades a lifeline.
+pub fn evades(room: &[u32], place: u32, lifeline: u32) -> bool
+    requires { ⌜ Rooted (now room) place ⌝ }
+    ensures { λ r. ⌜ r ≡ chart.evades (chartIn (now (room .entry)) place) lifeline ⌝ }
+{
+    let node = places::read(room, place);
+    let kind = node.kind;
+    match kind {
+        Node::EMPTY => true,
+        Node::EMISSION..=Node::RECEPTION => node.a != lifeline,
+        Node::STRICT..=Node::PAR => evades(room, node.a, lifeline)
+            && evades(room, node.b, lifeline),
+        Node::ALT => evades(room, node.a, lifeline) || evades(room, node.b, lifeline),
+        Node::STRICT_LOOP..=Node::PAR_LOOP => true,
+        _ => true,
+    }
+}
+
+// The places in use with what was pruned, from `used` on.
+fn count_with(part: Pruned, used: u32) -> u32
+    ensures { λ r. ⌜ r ≡ above part used ⌝ }
+{
+    let Pruned::Part(root) = part else {
+        return used;
+    };
+    root.used
+}
+
+// What is left of a pair, by what is left of its sides: of an alt either side, of any other pair both or nothing.
+fn pair_of(room: &mut [u32], kind: u32, left: Pruned, right: Pruned) -> Pruned
+    requires { ⌜ Table (now room) (above right 0) ⌝ }
+    ensures { λ r.
+        ⌜ r ≡ pairOf (now (room .entry)) kind left right
+        × now (room .exit) ≡ pairIn (now (room .entry)) kind left right ⌝ }
+{
+    let Pruned::Part(a) = left else {
+        if kind == Node::ALT {
+            return right;
+        }
+        return Pruned::Nothing;
+    };
+    let Pruned::Part(b) = right else {
+        if kind == Node::ALT {
+            return left;
+        }
+        return Pruned::Nothing;
+    };
+    Pruned::Part(places::add(
+        room,
+        Node {
+            kind: kind,
+            a: a.place,
+            b: b.place,
+        },
+        b.used,
+    ))
+}
+
+// What is left of a loop, by what is left of its body: a loop of that, or an empty.
+pub fn loop_of(room: &mut [u32], kind: u32, body: Pruned, used: u32) -> Root
+    requires { ⌜ Table (now room) (above body used) ⌝ }
+    ensures { λ r.
+        ⌜ r ≡ loopOf (now (room .entry)) body used × now (room .exit) ≡ loopIn (now (room .entry)) kind body used ⌝ }
+{
+    let Pruned::Part(root) = body else {
+        return places::add(
+            room,
+            Node {
+                kind: Node::EMPTY,
+                a: 0,
+                b: 0,
+            },
+            used,
+        );
+    };
+    places::add(
+        room,
+        Node {
+            kind: kind,
+            a: root.place,
+            b: 0,
+        },
+        root.used,
+    )
+}
+
+// A part pruned by a lifeline, its new nodes placed from `used` on; nothing if it does not evade the lifeline.
+pub fn prune(room: &mut [u32], place: u32, lifeline: u32, used: u32) -> Pruned
+    requires { ⌜ Table (now room) used × Rooted (now room) place × place < used ⌝ }
+    ensures { λ r.
+        ⌜ Prunes (now (room .entry)) used (chartIn (now (room .entry)) place) lifeline (now (room .exit)) r ⌝ }
+{
+    let node = places::read(room, place);
+    let kind = node.kind;
+    match kind {
+        Node::EMPTY => Pruned::Part(Root {
+            place: place,
+            used: used,
+        }),
+        Node::EMISSION..=Node::RECEPTION => {
+            if node.a == lifeline {
+                return Pruned::Nothing;
+            }
+            Pruned::Part(Root {
+                place: place,
+                used: used,
+            })
+        }
+        Node::STRICT..=Node::ALT => {
+            let left = prune(room, node.a, lifeline, used);
+            let right = prune(room, node.b, lifeline, count_with(left, used));
+            pair_of(room, kind, left, right)
+        }
+        Node::STRICT_LOOP..=Node::PAR_LOOP => {
+            let body = prune(room, node.a, lifeline, used);
+            Pruned::Part(loop_of(room, kind, body, used))
+        }
+        _ => Pruned::Part(Root {
+            place: place,
+            used: used,
+        }),
+    }
+}

@@ -1,0 +1,96 @@
+-- What stands at a place, taken apart by the ranges of kinds over which code decides: its chart, and that its parts
+-- stand at lower places.
+-- Assumes nothing.
+use Prim.Native.Nat.{ℕ, suc, _≤_, _<_}
+use mathlib.Core.Bool.{Bool}
+use mathlib.Core.List.{List, [], _∷_}
+use mathlib.Core.Path.{_≡_, refl, ap, sym, subst, _∙_}
+use native.Mathlib.Omega.{arith}
+use lib.ListN.{length}
+use Rattle.chart.specs.Chart.{Chart, Order, Loop}
+use Rattle.chart.specs.Chart.Chart.{empty, act, alt, pair, loop}
+use Rattle.node.specs.declared.Node.{Node}
+use Rattle.node.specs.Kind.{Kind, kindOf, Pair, paired}
+use Rattle.node.specs.Kind.Pair.{composed, choice}
+use Rattle.node.specs.Kind.Kind.{nothing, action, pairs, loops, unknown}
+use Rattle.node.specs.Row.{charts, stands, standsAs, children, Below}
+use Rattle.node.proofs.Ranges.{
+  zero-is-nothing,
+  one-and-two-are-actions,
+  three-to-five-are-orders,
+  six-is-the-choice,
+  three-to-six-are-pairs,
+  seven-to-ten-are-loops,
+  above-ten-is-unknown,
+  children-of-a-pair,
+  children-of-a-loop,
+}
+use Rattle.room.specs.Room.{nodesIn, nodeIn, chartIn, Table, Rooted}
+use Rattle.room.proofs.Standing.{chart-at, table-less}
+
+-- Everything in a table has its root there.
+pub table-rooted :
+    (room : List ℕ) (used place : ℕ) → Table room used → place < used → place < length room → Rooted room place
+table-rooted room used place table h inside =
+    record { inside = inside; table = table-less room used (suc place) (omega arith) table }
+
+module _ (room : List ℕ) (place : ℕ) (root : Rooted room place) (n : Node) (here : n ≡ nodeIn room place) where
+  chart-as : (k : Kind) → kindOf (n .kind) ≡ k → chartIn room place ≡ standsAs k (charts (nodesIn room)) n
+  chart-as k e =
+      chart-at room place (root .inside) (root .table .lower place (omega arith) (root .inside))
+      ∙ ap (stands (charts (nodesIn room))) (sym here) ∙ ap (λ m. standsAs m (charts (nodesIn room)) n) e
+
+  lower : Below place (children n)
+  lower = subst (λ m. Below place (children m)) (sym here) (root .table .lower place (omega arith) (root .inside))
+
+  rooted-below : (p : ℕ) → p < place → Rooted room p
+  rooted-below p h = table-rooted room (suc place) p (root .table) (omega arith) (omega (arith, root .inside))
+
+  pub empty-here : n .kind ≡ 0 → chartIn room place ≡ empty
+  empty-here k = chart-as nothing (zero-is-nothing (n .kind) k)
+
+  pub action-here :
+      1 ≤ n .kind → n .kind ≤ 2
+      → (r : Bool) × (kindOf (n .kind) ≡ action r)
+      × (chartIn room place ≡ act (record { line = n .a; receives = r; message = n .b }))
+  action-here low high = let (r, e) = one-and-two-are-actions (n .kind) low high in (r, e, chart-as (action r) e)
+
+  pub order-here :
+      3 ≤ n .kind → n .kind ≤ 5
+      → (o : Order) × (kindOf (n .kind) ≡ pairs (composed o))
+      × (chartIn room place ≡ pair o (chartIn room (n .a)) (chartIn room (n .b)))
+  order-here low high = let (o, e) = three-to-five-are-orders (n .kind) low high in (o, e, chart-as (pairs (composed o)) e)
+
+  pub pair-here :
+      (q : Pair) → kindOf (n .kind) ≡ pairs q → chartIn room place ≡ paired q (chartIn room (n .a)) (chartIn room (n .b))
+  pair-here q e = chart-as (pairs q) e
+
+  pub alt-here : n .kind ≡ 6 → chartIn room place ≡ alt (chartIn room (n .a)) (chartIn room (n .b))
+  alt-here k = chart-as (pairs choice) (six-is-the-choice (n .kind) k)
+
+  pub loop-here :
+      7 ≤ n .kind → n .kind ≤ 10
+      → (k : Loop) × (kindOf (n .kind) ≡ loops k) × (chartIn room place ≡ loop k (chartIn room (n .a)))
+  loop-here low high = let (k, e) = seven-to-ten-are-loops (n .kind) low high in (k, e, chart-as (loops k) e)
+
+  pub loop-of-that-kind : (k : Loop) → kindOf (n .kind) ≡ loops k → chartIn room place ≡ loop k (chartIn room (n .a))
+  loop-of-that-kind k e = chart-as (loops k) e
+
+  pub unknown-here : 11 ≤ n .kind → chartIn room place ≡ empty
+  unknown-here k = chart-as unknown (above-ten-is-unknown (n .kind) k)
+
+  -- The parts of a pair and of a loop stand lower.
+  pub left-lower : 3 ≤ n .kind → n .kind ≤ 6 → (n .a < place) × Rooted room (n .a)
+  left-lower low high =
+      let (a, rest) = rw (children-of-a-pair n low high) at lower in
+      (a, rooted-below (n .a) a)
+
+  pub right-lower : 3 ≤ n .kind → n .kind ≤ 6 → (n .b < place) × Rooted room (n .b)
+  right-lower low high =
+      let (a, (b, rest)) = rw (children-of-a-pair n low high) at lower in
+      (b, rooted-below (n .b) b)
+
+  pub body-lower : 7 ≤ n .kind → n .kind ≤ 10 → (n .a < place) × Rooted room (n .a)
+  body-lower low high =
+      let (a, rest) = rw (children-of-a-loop n low high) at lower in
+      (a, rooted-below (n .a) a)
