@@ -135,3 +135,8 @@ pub few-lifelines : (card : List ℕ) → countsInRange card ≡ true → lifeli
 few-lifelines card h =
     let (l, m) = both-true (within 1 (lifelinesOf card) 16) (within 1 (messagesOf card) 64) h in
     (within→ 1 (lifelinesOf card) 16 l) .1
+
+pub few-messages : (card : List ℕ) → countsInRange card ≡ true → messagesOf card ≤ 64
+few-messages card h =
+    let (l, m) = both-true (within 1 (lifelinesOf card) 16) (within 1 (messagesOf card) 64) h in
+    (within→ 1 (messagesOf card) 64 m) .1

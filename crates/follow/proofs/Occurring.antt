@@ -48,9 +48,9 @@ module _ (a b : Action) where
 
 -- The direction by the kind's number.
 pub direction : (n : Node) (r : Bool) → kindOf (n .kind) ≡ action r → eqb (n .kind) 2 ≡ r
-direction n true e = eq-eqb (n .kind) 2 (kind-has-its-number (n .kind) (action true) e (omega arith))
+direction n true e = eq-eqb (n .kind) 2 (kind-has-its-number (n .kind) (action true) e tt)
 direction n false e =
-    ne-eqb (n .kind) 2 (λ two. let one = kind-has-its-number (n .kind) (action false) e (omega arith) in omega arith)
+    ne-eqb (n .kind) 2 (λ two. let one = kind-has-its-number (n .kind) (action false) e tt in omega arith)
 
 module _ (room : List ℕ) (used k : ℕ) (n : Node) (a : Action) (is : Bool)
     (asked : is ≡ same a (record { line = n .a; receives = eqb (n .kind) 2; message = n .b })) where

@@ -63,7 +63,7 @@ pub left-replaced :
 left-replaced room kind place x (composed o) e other table below =
     λ before used m start b. pair-builds b (composed o) kind (start .counted) e (kept-builds room (x .used) place table (λ h. below))
 left-replaced room kind place x choice e other table below =
-    absurd (other (kind-has-its-number kind (pairs choice) e (omega arith)))
+    absurd (other (kind-has-its-number kind (pairs choice) e tt))
 
 -- Strict: "only if the left terminates, and the right's follow-up alone remains".
 module _ (room : List ℕ) (k d : ℕ) (right : Executed) (l : Chart) where

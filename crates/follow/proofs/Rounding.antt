@@ -35,14 +35,8 @@ use Rattle.follow.specs.Passing.{orderBetween, Carries}
 
 -- The kind of the pair between the rounds of a loop.
 pub order-between : (kind : ℕ) (l : Loop) → kindOf kind ≡ loops l → kindOf (orderBetween kind) ≡ pairs (composed (between l))
-order-between kind l e = by l (kind-has-its-number kind (loops l) e (few l))
+order-between kind l e = by l (kind-has-its-number kind (loops l) e tt)
   where
-    few : (l : Loop) → numberOf (loops l) < 11
-    few (each strict) = omega arith
-    few (each seq) = omega arith
-    few (each par) = omega arith
-    few head = omega arith
-
     by : (l : Loop) → kind ≡ numberOf (loops l) → kindOf (orderBetween kind) ≡ pairs (composed (between l))
     by (each strict) same = rw (eq-eqb kind 7 same) strict-is-three
     by (each seq) same = rw (ne-eqb kind 7 (λ h. omega arith), ne-eqb kind 10 (λ h. omega arith)) seq-is-four
@@ -54,7 +48,7 @@ pub no-weak-loop :
     (kind : ℕ) (l : Loop) (b : Chart) (d : ℕ) (x : Made) → kindOf kind ≡ loops l → kind ≢ 9
     → afterRound l b d x ≡ begun l b x
 no-weak-loop kind (each strict) b d x e other = refl
-no-weak-loop kind (each seq) b d x e other = absurd (other (kind-has-its-number kind (loops (each seq)) e (omega arith)))
+no-weak-loop kind (each seq) b d x e other = absurd (other (kind-has-its-number kind (loops (each seq)) e tt))
 no-weak-loop kind (each par) b d x e other = refl
 no-weak-loop kind head b d x e other = refl
 

@@ -4,7 +4,7 @@ use Prim.Native.Nat.{ℕ, zero, suc, _+_, _<_, _≤_}
 use mathlib.Core.Bool.{true, false}
 use mathlib.Core.List.{List, [], _∷_}
 use mathlib.Core.Logic.{_≢_}
-use mathlib.Core.Path.{_≡_, refl, ap, sym, _∙_}
+use mathlib.Core.Path.{_≡_, refl, ap, sym, subst, _∙_}
 use native.Mathlib.Decide.{decLt}
 use native.Mathlib.Omega.{arith}
 use lib.ListN.{length, getD}
@@ -49,15 +49,24 @@ numbered : (k : ℕ) → k < 11 → numberOf (kindOf k) ≡ k
 unfolding kindOf
 numbered k h = omega (arith, numbered-at 0 allKinds k all-numbered h)
 
--- A kind other than the unknown has that number alone.
-pub kind-has-its-number : (k : ℕ) (is : Kind) → kindOf k ≡ is → numberOf is < 11 → k ≡ numberOf is
-kind-has-its-number k is e known = by (decLt k 11)
+-- Every kind but the unknown.
+abbrev pub Known : Kind → Type 0
+Known nothing = Unit
+Known (action r) = Unit
+Known (pairs q) = Unit
+Known (loops l) = Unit
+Known unknown = ⊥
+
+pub known-kinds : (k : ℕ) → Known (kindOf k) → k < 11
+known-kinds k known = by (decLt k 11)
   where
-    by : Dec (k < 11) → k ≡ numberOf is
-    by (yes h) = sym (numbered k h) ∙ ap numberOf e
-    by (no h) =
-        let beyond : 11 ≡ numberOf is = ap numberOf (sym (above-ten-is-unknown k (omega arith)) ∙ e) in
-        absurd (omega arith)
+    by : Dec (k < 11) → k < 11
+    by (yes h) = h
+    by (no h) = absurd (subst Known (above-ten-is-unknown k (omega arith)) known)
+
+-- A known kind has that number alone.
+pub kind-has-its-number : (k : ℕ) (is : Kind) → kindOf k ≡ is → Known is → k ≡ numberOf is
+kind-has-its-number k is e known = sym (numbered k (known-kinds k (subst Known (sym e) known))) ∙ ap numberOf e
 
 abbrev pair-in : Kind → Pair
 pair-in nothing = choice
@@ -82,7 +91,7 @@ one-loop k j l m same e f = ap loop-in (sym e ∙ ap kindOf (sym same) ∙ f)
 
 -- A pair with no number of an order is the choice.
 pub else-the-choice : (k : ℕ) (q : Pair) → kindOf k ≡ pairs q → k ≢ 3 → k ≢ 4 → k ≢ 5 → choice ≡ q
-else-the-choice k (composed strict) e three four five = absurd (three (kind-has-its-number k (pairs (composed strict)) e (omega arith)))
-else-the-choice k (composed seq) e three four five = absurd (four (kind-has-its-number k (pairs (composed seq)) e (omega arith)))
-else-the-choice k (composed par) e three four five = absurd (five (kind-has-its-number k (pairs (composed par)) e (omega arith)))
+else-the-choice k (composed strict) e three four five = absurd (three (kind-has-its-number k (pairs (composed strict)) e tt))
+else-the-choice k (composed seq) e three four five = absurd (four (kind-has-its-number k (pairs (composed seq)) e tt))
+else-the-choice k (composed par) e three four five = absurd (five (kind-has-its-number k (pairs (composed par)) e tt))
 else-the-choice k choice e three four five = refl

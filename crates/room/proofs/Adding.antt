@@ -21,7 +21,8 @@ use Rattle.node.specs.Kind.Kind.{nothing, action, pairs, loops, unknown}
 use Rattle.node.specs.Place.{nodeOf, wordOf, Fitting}
 use Rattle.node.specs.Row.{charts, stands, standsAs, children, Below}
 use Rattle.node.proofs.Packing.{unpacks-to-the-same-node}
-use Rattle.node.proofs.Ranges.{zero-is-nothing, above-ten-is-unknown}
+use Rattle.node.proofs.Ranges.{zero-is-nothing}
+use Rattle.node.proofs.Numbering.{Known, known-kinds}
 use Rattle.node.proofs.Rows.{stands-alike}
 use Rattle.room.specs.declared.Root.{Root}
 use Rattle.room.specs.Room.{nodesIn, nodeIn, chartIn, Table, Kept}
@@ -104,21 +105,6 @@ kept-builds room used place table below =
       stands = λ h. refl;
     }
 
-abbrev IsKnown : Kind → Type 0
-IsKnown nothing = Unit
-IsKnown (action r) = Unit
-IsKnown (pairs q) = Unit
-IsKnown (loops k) = Unit
-IsKnown unknown = ⊥
-
--- A kind that is known has room in a place.
-known-kinds-fit : (k : ℕ) → IsKnown (kindOf k) → k < 2 ^ 4
-known-kinds-fit k known = by (decLe 11 k)
-  where
-    by : Dec (11 ≤ k) → k < 2 ^ 4
-    by (yes h) = absurd (subst IsKnown (above-ten-is-unknown k h) known)
-    by (no h) = omega arith
-
 -- A new pair of two parts, in some order or as a choice.
 abbrev pub newPaired : Pair → Made → Made → Made
 newPaired (composed o) m n = newPair o m n
@@ -167,7 +153,7 @@ module _ {before : List ℕ} {start : ℕ} {m : Made} {middle : List ℕ} {left 
         (newPaired-cost q l r ∙ ap (λ c. 1 + c) sum)
         (λ h. (
           record {
-            kind = known-kinds-fit kind (subst IsKnown (sym is) tt);
+            kind = omega (arith, known-kinds kind (subst Known (sym is) tt));
             a = omega (arith, a-below h);
             b = omega (arith, b-below h);
           },
@@ -202,7 +188,7 @@ module _ {before : List ℕ} {start : ℕ} {m : Made} {middle : List ℕ} {left 
       (ml .cost) refl
       (λ h. (
         record {
-          kind = known-kinds-fit kind (subst IsKnown (sym e) tt);
+          kind = omega (arith, known-kinds kind (subst Known (sym e) tt));
           a = omega (arith, ml .held .below (omega arith));
           b = omega arith;
         },

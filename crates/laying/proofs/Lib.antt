@@ -1,0 +1,2 @@
+-- Laws of laying.
+pub mod Placed

@@ -1,0 +1,2 @@
+-- A card's chart in a room.
+pub mod Rooms

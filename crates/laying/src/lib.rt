@@ -1,0 +1,34 @@
+// Laying a card's chart into a room: one place a node, in the card's own order (01, "How a log is executed", Places).
+ghost use mathlib.Core.Path.{_≡_};
+ghost use Prim.Native.Nat.{_≤_};
+ghost use lib.ListN.{length};
+ghost use Rattle.card.specs.Table.{Sound};
+ghost use Rattle.laying.specs.Rooms.{laying, laidIn};
+use room::Root;
+
+// What laying answers: the whole chart, or that it exceeds the room.
+pub enum Laid {
+    Whole(Root),
+    TooLittle,
+}
+
+// The chart of a sound card in the first places of a room. Too little room is seen before anything is written.
+pub fn lay(card: &[u8], room: &mut [u32]) -> Laid
+    requires { ⌜ Sound (now card) × length (now room) ≤ 16384 ⌝ }
+    ensures { λ r.
+      ⌜ r ≡ laying (now (card .entry)) (now (room .entry))
+      × now (room .exit) ≡ laidIn (now (card .entry)) (now (room .entry)) ⌝ }
+{
+    let nodes = parts::nodes(card);
+    let count = parts::count(nodes);
+    if room.len() < count {
+        return Laid::TooLittle;
+    }
+    let mut root = Root { place: 0, used: 0 };
+    let mut i = 0;
+    while i < count {
+        root = places::add(room, parts::node_at(nodes, i), i as u32);
+        i += 1;
+    }
+    Laid::Whole(root)
+}
