@@ -4,3 +4,4 @@ pub mod Answering
 pub mod Pairing
 pub mod Rounding
 pub mod Placing
+pub mod Onward

@@ -1,2 +1,3 @@
 -- Laws of laying.
 pub mod Placed
+pub mod Onward

@@ -16,8 +16,8 @@ pub enum Laid {
 pub fn lay(card: &[u8], room: &mut [u32]) -> Laid
     requires { ⌜ Sound (now card) × length (now room) ≤ 16384 ⌝ }
     ensures { λ r.
-      ⌜ r ≡ laying (now (card .entry)) (now (room .entry))
-      × now (room .exit) ≡ laidIn (now (card .entry)) (now (room .entry)) ⌝ }
+        ⌜ r ≡ laying (now (card .entry)) (now (room .entry))
+        × now (room .exit) ≡ laidIn (now (card .entry)) (now (room .entry)) ⌝ }
 {
     let nodes = parts::nodes(card);
     let count = parts::count(nodes);

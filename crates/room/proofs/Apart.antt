@@ -25,14 +25,21 @@ use Rattle.node.proofs.Ranges.{
   children-of-a-pair,
   children-of-a-loop,
 }
-use Rattle.room.specs.Room.{nodesIn, nodeIn, chartIn, Table, Rooted}
-use Rattle.room.proofs.Standing.{chart-at, table-less}
+use Rattle.room.specs.Room.{nodesIn, nodeIn, chartIn, Table, Rooted, Kept}
+use Rattle.room.proofs.Standing.{chart-at, kept-table, table-less}
 
 -- Everything in a table has its root there.
 pub table-rooted :
     (room : List ℕ) (used place : ℕ) → Table room used → place < used → place < length room → Rooted room place
 table-rooted room used place table h inside =
     record { inside = inside; table = table-less room used (suc place) (omega arith) table }
+
+-- What is kept keeps its roots.
+pub kept-rooted :
+    (used : ℕ) (before after : List ℕ) (place : ℕ) → Kept used before after → Table before used → Rooted before place
+    → place < used → Rooted after place
+kept-rooted used before after place kept table root h =
+    table-rooted after used place (kept-table used before after kept table) h (omega (arith, root .inside, kept .long))
 
 module _ (room : List ℕ) (place : ℕ) (root : Rooted room place) (n : Node) (here : n ≡ nodeIn room place) where
   chart-as : (k : Kind) → kindOf (n .kind) ≡ k → chartIn room place ≡ standsAs k (charts (nodesIn room)) n
