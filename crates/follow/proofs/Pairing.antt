@@ -2,11 +2,13 @@
 -- the rule names.
 -- Assumes nothing.
 use Prim.Native.Nat.{ℕ, suc, _+_, _<_, _≤_}
-use mathlib.Core.Bool.{Bool, true, false}
+use mathlib.Core.Bool.{Bool, true, false, cond}
 use mathlib.Core.List.{List, [], _∷_, _++_, map}
 use mathlib.Core.Logic.{_≢_}
 use mathlib.Core.Path.{_≡_, refl, ap, sym, subst, _∙_}
 use native.Mathlib.Omega.{arith}
+use lib.Dec.{T}
+use borrow.Author.Tests.{eqb-true}
 use lib.ListN.{length, getD}
 use Rattle.chart.specs.Action.{Action}
 use Rattle.chart.specs.Chart.{Chart, Order}
@@ -25,7 +27,7 @@ use Rattle.room.specs.Room.{chartIn, Table, Rooted, Kept}
 use Rattle.room.specs.Building.{added, rootAt, Builds, Prunes, Follows}
 use Rattle.room.proofs.Standing.{kept-then, kept-table}
 use Rattle.room.proofs.Adding.{builds-more, kept-builds, pair-builds, pair-builds-backward}
-use Rattle.follow.specs.Passing.{besideRight, besideLeft, Carries, Turns, Beside}
+use Rattle.follow.specs.Passing.{besideRight, besideLeft, noneOf, Carries, Turns, Beside}
 use Rattle.follow.proofs.Answering.{
   answer-keeps,
   changed-follow-up,
@@ -122,6 +124,28 @@ par-replaced room k d kind place x is table below before used xs start (h, b) =
     (added room (x .used) (record { kind = kind; a = place; b = x .place })) (rootAt room (x .used)) h
     (pair-builds-backward b (composed par) kind (start .counted) is
     (kept-builds room (x .used) place table (λ h. below)))
+
+-- No occurrence on the right: then there is no follow-up either, whatever the left allows.
+either-way : (b : Bool) → _≡_ {A = List Made} (cond b [] []) []
+either-way true = refl
+either-way false = refl
+
+none-beside : (q : Pair) (l : Chart) (d : ℕ) → besideLeft q l d [] ≡ []
+none-beside (composed strict) l d = either-way (terminates l)
+none-beside (composed seq) l d = either-way (evades l d)
+none-beside (composed par) l d = refl
+none-beside choice l d = refl
+
+pub none-on-the-right :
+    (room : List ℕ) (k d : ℕ) (right : Executed) (l : Chart) (q : Pair) → noneOf right k ≡ true
+    → Turns room k right (besideLeft q l d) room right
+none-on-the-right room k d (FollowUp x) l q none = absurd (subst T (sym none) tt)
+none-on-the-right room k d (Missing more) l q none = λ before used xs start given. by before used xs given
+  where
+    by : (before : List ℕ) (used : ℕ) (xs : List Made) → Follows before used xs k room (Missing more)
+        → Follows before used (besideLeft q l d xs) k room (Missing more)
+    by before used [] given = rw (none-beside q l d) given
+    by before used (x ∷ xs) (sum, keeps) = absurd (let same = eqb-true more k none in omega arith)
 
 -- By the kind of the pair.
 module _ (room : List ℕ) (kind k d : ℕ) (right : Executed) (l : Chart) (after : List ℕ) (answer : Executed) (q : Pair)

@@ -2,7 +2,7 @@
 -- are working definitions: proofs/ shows that they make up `follows`.
 -- Assumes nothing.
 use Prim.Native.Nat.{ℕ, _<_, _≤_}
-use mathlib.Core.Bool.{cond}
+use mathlib.Core.Bool.{Bool, false, cond}
 use mathlib.Core.List.{List}
 use lib.Dec.{eqb}
 use Rattle.chart.specs.Action.{Action}
@@ -28,6 +28,11 @@ besideRight choice r x = x
 abbrev pub besideLeft : Pair → Chart → ℕ → List Made → List Made
 besideLeft (composed o) l d xs = onRight o l d xs
 besideLeft choice l d xs = xs
+
+-- The answer that there is no occurrence: as many are to be passed over as before.
+abbrev pub noneOf : Executed → ℕ → Bool
+noneOf (FollowUp x) k = false
+noneOf (Missing more) k = eqb more k
 
 -- Whatever part was built before, another was made of it.
 abbrev pub Carries : List ℕ → Root → (Made → Made) → List ℕ → Root → Type 0

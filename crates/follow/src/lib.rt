@@ -12,7 +12,7 @@ ghost use Rattle.node.specs.Kind.{Pair, kindOf};
 ghost use Rattle.node.specs.Kind.Kind.{pairs, loops};
 ghost use Rattle.room.specs.Room.{nodeIn, chartIn, Table, Rooted};
 ghost use Rattle.room.specs.Building.{actionOf, Held, Follows};
-ghost use Rattle.follow.specs.Passing.{besideRight, besideLeft, occurrences, orderBetween, Carries, Turns, Beside};
+ghost use Rattle.follow.specs.Passing.{besideRight, besideLeft, noneOf, occurrences, orderBetween, Carries, Turns, Beside};
 use node::Node;
 use room::Action;
 use room::Executed;
@@ -140,7 +140,18 @@ fn right_of_par(room: &mut [u32], left: u32, right: Executed) -> Executed
     ))
 }
 
-// The right side of a pair, by its kind. In an alt the right's follow-up alone remains.
+// Whether an answer says that there is no occurrence at all, so many having been to be passed over.
+fn is_none(answer: Executed, k: u32) -> bool
+    ensures { λ r. ⌜ r ≡ noneOf answer k ⌝ }
+{
+    let Executed::Missing(more) = answer else {
+        return false;
+    };
+    more == k
+}
+
+// The right side of a pair, by its kind. In an alt the right's follow-up alone remains. With no occurrence on the right
+// the left is not asked.
 fn on_right(room: &mut [u32], node: Node, lifeline: u32, k: u32, right: Executed) -> Executed
     requires { ⌜ Rooted (now room) (node .a) × Beside (now room) (node .a) right ⌝ }
     ensures { λ r.
@@ -148,6 +159,9 @@ fn on_right(room: &mut [u32], node: Node, lifeline: u32, k: u32, right: Executed
         → Turns (now (room .entry)) k right (besideLeft q (chartIn (now (room .entry)) (node .a)) lifeline)
         (now (room .exit)) r) ⌝ }
 {
+    if is_none(right, k) {
+        return right;
+    }
     let kind = node.kind;
     match kind {
         Node::STRICT => right_of_strict(room, node.a, k, right),

@@ -20,22 +20,15 @@ use Rattle.node.specs.Kind.{kindOf}
 use Rattle.node.specs.Kind.Pair.{composed, choice}
 use Rattle.node.specs.Kind.Kind.{pairs, loops}
 use Rattle.node.proofs.Ranges.{six-is-the-choice}
+use Rattle.room.specs.declared.Root.{Root}
 use Rattle.room.specs.declared.Pruned.{Pruned}
 use Rattle.room.specs.declared.Pruned.the-variants.{Part, Nothing}
 use Rattle.room.specs.Room.{nodeIn, chartIn, Table, Rooted, Kept}
 use Rattle.room.specs.Building.{Builds, Prunes}
 use Rattle.room.proofs.Standing.{kept-self, kept-chart, kept-then, kept-table, table-less}
 use Rattle.room.proofs.Apart.{
-  table-rooted,
-  empty-here,
-  action-here,
-  order-here,
-  alt-here,
-  loop-here,
-  unknown-here,
-  left-lower,
-  right-lower,
-  body-lower,
+  table-rooted, kept-rooted, empty-here, action-here, order-here, alt-here, loop-here, unknown-here, left-lower,
+  right-lower, body-lower
 }
 use Rattle.room.proofs.Adding.{
   builds-more,
@@ -84,33 +77,43 @@ empty-pruned room used place d table below e =
     leaf-pruned room used place d table below (ap (λ c. evades c d) e)
     (ap (λ c. prune c d) e ∙ ap kept (sym e))
 
-module _ (before middle room : List ℕ) (used d : ℕ) (l r : Chart) (table : Table before used) where
-  pub order-pruned :
-      (o : Order) (kind : ℕ) → kindOf kind ≡ pairs (composed o) → eqb kind 6 ≡ false → (left right : Pruned)
-      → Prunes before used l d middle left → Prunes middle (above left used) r d room right
-      → Prunes before used (pair o l r) d (pairIn room kind left right) (pairOf room kind left right)
-  unfolding prune
-  order-pruned o kind e six (Part a) (Part b) (le, lb) (re, rb) =
-      (rw (le, re), pair-builds lb (composed o) kind (table .counted) e rb)
-  order-pruned o kind e six (Part a) Nothing (le, lb) (re, keeps) =
-      rw six (rw (le, re), kept-then used (a .used) before middle room (builds-more lb (table .counted)) (lb .kept) keeps)
-  order-pruned o kind e six Nothing right (le, keeps) rest =
-      rw six (rw le, kept-then used used before middle room (omega arith) keeps (prunes-keeps middle used r d room right rest))
+-- Sides that are left, and sides of which nothing is left. With nothing left of the left side the right one is pruned
+-- from the same places on.
+module _ (before middle : List ℕ) (used d : ℕ) (l r : Chart) (table : Table before used) where
+  pub order-lost : (o : Order) → Prunes before used l d middle Nothing → Prunes before used (pair o l r) d middle Nothing
+  order-lost o (le, keeps) = (rw le, keeps)
 
-  pub alt-pruned :
-      (kind : ℕ) → kind ≡ 6 → (left right : Pruned) → Prunes before used l d middle left
-      → Prunes middle (above left used) r d room right
-      → Prunes before used (alt l r) d (pairIn room kind left right) (pairOf room kind left right)
+  pub alt-by-its-right :
+      (room : List ℕ) (right : Pruned) → Prunes before used l d middle Nothing → Prunes middle used r d room right
+      → Prunes before used (alt l r) d room right
   unfolding prune
-  alt-pruned kind six (Part a) (Part b) (le, lb) (re, rb) =
-      (rw le, rw (le, re) (pair-builds lb choice kind (table .counted) (six-is-the-choice kind six) rb))
-  alt-pruned kind six (Part a) Nothing (le, lb) (re, keeps) =
-      rw (eq-eqb kind 6 six)
-      (rw le, rw (le, re) (builds-kept lb (builds-more lb (table .counted)) keeps))
-  alt-pruned kind six Nothing (Part b) (le, keeps) (re, rb) =
-      rw (eq-eqb kind 6 six) (rw (le, re), rw le (kept-then-builds (table .counted) keeps rb))
-  alt-pruned kind six Nothing Nothing (le, keeps) (re, still) =
-      rw (eq-eqb kind 6 six) (rw (le, re), kept-then used used before middle room (omega arith) keeps still)
+  alt-by-its-right room (Part part) (le, keeps) (re, rb) =
+      (rw (le, re), rw le (kept-then-builds (table .counted) keeps rb))
+  alt-by-its-right room Nothing (le, keeps) (re, still) =
+      (rw (le, re), kept-then used used before middle room (omega arith) keeps still)
+
+  module _ (room : List ℕ) (left : Root) (kind : ℕ) where
+    pub order-pruned :
+        (o : Order) → kindOf kind ≡ pairs (composed o) → eqb kind 6 ≡ false → (right : Pruned)
+        → Prunes before used l d middle (Part left) → Prunes middle (left .used) r d room right
+        → Prunes before used (pair o l r) d (pairIn room kind left right) (pairOf room kind left right)
+    unfolding prune
+    order-pruned o e six (Part part) (le, lb) (re, rb) =
+        (rw (le, re), pair-builds lb (composed o) kind (table .counted) e rb)
+    order-pruned o e six Nothing (le, lb) (re, keeps) =
+        rw six
+        (rw (le, re), kept-then used (left .used) before middle room (builds-more lb (table .counted)) (lb .kept) keeps)
+
+    pub alt-pruned :
+        kind ≡ 6 → (right : Pruned) → Prunes before used l d middle (Part left)
+        → Prunes middle (left .used) r d room right
+        → Prunes before used (alt l r) d (pairIn room kind left right) (pairOf room kind left right)
+    unfolding prune
+    alt-pruned six (Part part) (le, lb) (re, rb) =
+        (rw le, rw (le, re) (pair-builds lb choice kind (table .counted) (six-is-the-choice kind six) rb))
+    alt-pruned six Nothing (le, lb) (re, keeps) =
+        rw (eq-eqb kind 6 six)
+        (rw le, rw (le, re) (builds-kept lb (builds-more lb (table .counted)) keeps))
 
 -- A loop always evades, and becomes the loop of what is left of its body, or empty.
 pub loop-pruned :
@@ -153,56 +156,88 @@ module _ (before : List ℕ) (used place d : ℕ) (table : Table before used) (r
   at-an-action-on-it low high same =
       (evades-here low high ∙ ap not (eq-eqb (n .a) d same), kept-self used before)
 
-  -- The left side, and then the right side above it.
-  pub asks-left : 3 ≤ n .kind → n .kind ≤ 6 → Table before used × Rooted before (n .a) × n .a < used
-  asks-left low high = let (a, there) = left-lower before place root n here low high in (table, there, omega arith)
+  module _ (low : 3 ≤ n .kind) (high : n .kind ≤ 6) where
+    pub asks-left : Table before used × Rooted before (n .a) × n .a < used
+    asks-left = let (a, there) = left-lower before place root n here low high in (table, there, omega arith)
 
-  module _ (middle : List ℕ) (left : Pruned) (on-left : Prunes before used (chartIn before (n .a)) d middle left) where
-    keeps-left : Kept used before middle
-    keeps-left = prunes-keeps before used (chartIn before (n .a)) d middle left on-left
+    right-there : (n .b < place) × Rooted before (n .b)
+    right-there = right-lower before place root n here low high
 
-    pub above-left : Table middle (above left used)
-    above-left = prunes-table before used (chartIn before (n .a)) d middle left table on-left
+    -- Nothing is left of the left side.
+    module _ (middle : List ℕ) (on-left : Prunes before used (chartIn before (n .a)) d middle Nothing) where
+      pub at-a-lost-order : n .kind ≢ 6 → Prunes before used (chartIn before place) d middle Nothing
+      at-a-lost-order other =
+          let (o, e, whole) = order-here before place root n here low (omega arith) in
+          rw whole (order-lost before middle used d (chartIn before (n .a)) (chartIn before (n .b)) table o on-left)
 
-    more-left : used ≤ above left used
-    more-left = prunes-more before used (chartIn before (n .a)) d middle left table on-left
+      pub asks-right-alone : Table middle used × Rooted middle (n .b) × n .b < used
+      asks-right-alone =
+          let (b, there) = right-there in (
+            kept-table used before middle (on-left .1) table,
+            kept-rooted used before middle (n .b) (on-left .1) table there (omega arith),
+            omega arith,
+          )
 
-    pub asks-right :
-        3 ≤ n .kind → n .kind ≤ 6 → Table middle (above left used) × Rooted middle (n .b) × n .b < above left used
-    asks-right low high =
-        let (b, there) = right-lower before place root n here low high in
-        let inside : n .b < length middle = omega (arith, there .inside, keeps-left .long) in
-        (above-left, table-rooted middle (above left used) (n .b) above-left (omega (arith, more-left)) inside, omega (arith, more-left))
+      pub at-an-alt-by-its-right :
+          (room : List ℕ) (right : Pruned) → n .kind ≡ 6 → Prunes middle used (chartIn middle (n .b)) d room right
+          → Prunes before used (chartIn before place) d room right
+      at-an-alt-by-its-right room right six on-right =
+          let (b, there) = right-there in
+          let same : chartIn middle (n .b) ≡ chartIn before (n .b)
+          = kept-chart used before middle (on-left .1) (n .b) (omega arith) (there .inside) in
+          rw (alt-here before place root n here six)
+          (alt-by-its-right before middle used d (chartIn before (n .a)) (chartIn before (n .b)) table room right on-left
+          (rw same at on-right))
 
-    module _ (room : List ℕ) (right : Pruned)
-        (on-right : Prunes middle (above left used) (chartIn middle (n .b)) d room right) where
-      pub above-right : Table room (above right 0)
-      above-right = prunes-part-table middle (above left used) (chartIn middle (n .b)) d room right above-left on-right
+    -- The left side is left, and the right one is pruned above it.
+    module _ (middle : List ℕ) (left : Root) (on-left : Prunes before used (chartIn before (n .a)) d middle (Part left)) where
+      above-left : used ≤ left .used
+      above-left = builds-more (on-left .1) (table .counted)
 
-      pub at-a-pair :
-          3 ≤ n .kind → n .kind ≤ 6
-          → Prunes before used (chartIn before place) d (pairIn room (n .kind) left right) (pairOf room (n .kind) left right)
-      at-a-pair low high = by (ℕ-discrete (n .kind) 6)
-        where
-          right-there : chartIn middle (n .b) ≡ chartIn before (n .b)
-          right-there =
-              let (b, there) = right-lower before place root n here low high in
-              kept-chart used before middle keeps-left (n .b) (omega arith) (there .inside)
+      pub asks-right : Table middle (left .used) × Rooted middle (n .b) × n .b < left .used
+      asks-right =
+          let (b, there) = right-there in
+          let built = on-left .1 in
+          let inside : n .b < length middle = omega (arith, there .inside, built .kept .long) in (
+            built .held .table,
+            table-rooted middle (left .used) (n .b) (built .held .table) (omega (arith, above-left)) inside,
+            omega (arith, above-left),
+          )
 
-          by : Dec (n .kind ≡ 6)
-              → Prunes before used (chartIn before place) d (pairIn room (n .kind) left right) (pairOf room (n .kind) left right)
-          by (yes six) =
-              rw (alt-here before place root n here six)
-              (alt-pruned before middle room used d (chartIn before (n .a)) (chartIn before (n .b)) table (n .kind) six left right
-              on-left (rw right-there at on-right))
-          by (no other) =
-              let (o, e, whole) = order-here before place root n here low (omega arith) in
-              rw whole
-              (order-pruned before middle room used d (chartIn before (n .a)) (chartIn before (n .b)) table o (n .kind) e
-              (ne-eqb (n .kind) 6 other) left right on-left (rw right-there at on-right))
+      module _ (room : List ℕ) (right : Pruned)
+          (on-right : Prunes middle (left .used) (chartIn middle (n .b)) d room right) where
+        pub above-right : Table room (above right 0)
+        above-right =
+            prunes-part-table middle (left .used) (chartIn middle (n .b)) d room right (on-left .1 .held .table) on-right
+
+        pub at-a-pair :
+            Prunes before used (chartIn before place) d (pairIn room (n .kind) left right) (pairOf room (n .kind) left right)
+        at-a-pair = by (ℕ-discrete (n .kind) 6)
+          where
+            same : chartIn middle (n .b) ≡ chartIn before (n .b)
+            same =
+                let (b, there) = right-there in
+                kept-chart used before middle (on-left .1 .kept) (n .b) (omega arith) (there .inside)
+
+            by : Dec (n .kind ≡ 6)
+                → Prunes before used (chartIn before place) d (pairIn room (n .kind) left right)
+                (pairOf room (n .kind) left right)
+            by (yes six) =
+                rw (alt-here before place root n here six)
+                (alt-pruned before middle used d (chartIn before (n .a)) (chartIn before (n .b)) table room left (n .kind)
+                six right on-left (rw same at on-right))
+            by (no other) =
+                let (o, e, whole) = order-here before place root n here low (omega arith) in
+                rw whole
+                (order-pruned before middle used d (chartIn before (n .a)) (chartIn before (n .b)) table room left
+                (n .kind) o e (ne-eqb (n .kind) 6 other) right on-left (rw same at on-right))
 
   pub asks-body : 7 ≤ n .kind → n .kind ≤ 10 → Table before used × Rooted before (n .a) × n .a < used
   asks-body low high = let (a, there) = body-lower before place root n here low high in (table, there, omega arith)
+
+  pub above-body :
+      (room : List ℕ) (body : Pruned) → Prunes before used (chartIn before (n .a)) d room body → Table room (above body used)
+  above-body room body on-body = prunes-table before used (chartIn before (n .a)) d room body table on-body
 
   pub at-a-loop :
       (room : List ℕ) (body : Pruned) → 7 ≤ n .kind → n .kind ≤ 10 → Prunes before used (chartIn before (n .a)) d room body

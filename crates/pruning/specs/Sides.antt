@@ -16,16 +16,16 @@ abbrev pub above : Pruned → ℕ → ℕ
 above (Part root) used = root .used
 above Nothing used = used
 
--- Of an alt (kind 6) either side is left, of any other pair both or nothing.
-abbrev pub pairOf : List ℕ → ℕ → Pruned → Pruned → Pruned
-pairOf room kind (Part a) (Part b) = Part (rootAt room (b .used))
-pairOf room kind (Part a) Nothing = cond (eqb kind 6) (Part a) Nothing
-pairOf room kind Nothing right = cond (eqb kind 6) right Nothing
+-- A pair of what is left of both sides; with nothing left of the right side, of an alt (kind 6) the left side, of any
+-- other pair nothing.
+abbrev pub pairOf : List ℕ → ℕ → Root → Pruned → Pruned
+pairOf room kind left (Part right) = Part (rootAt room (right .used))
+pairOf room kind left Nothing = cond (eqb kind 6) (Part left) Nothing
 
-abbrev pub pairIn : List ℕ → ℕ → Pruned → Pruned → List ℕ
-pairIn room kind (Part a) (Part b) = added room (b .used) (record { kind = kind; a = a .place; b = b .place })
-pairIn room kind (Part a) Nothing = room
-pairIn room kind Nothing right = room
+abbrev pub pairIn : List ℕ → ℕ → Root → Pruned → List ℕ
+pairIn room kind left (Part right) =
+    added room (right .used) (record { kind = kind; a = left .place; b = right .place })
+pairIn room kind left Nothing = room
 
 -- A loop of what is left of the body, or an empty.
 abbrev pub loopOf : List ℕ → Pruned → ℕ → Root

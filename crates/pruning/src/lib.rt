@@ -45,44 +45,21 @@ pub fn evades(room: &[u32], place: u32, lifeline: u32) -> bool
     }
 }
 
-// The places in use with what was pruned, from `used` on.
-fn count_with(part: Pruned, used: u32) -> u32
-    ensures { λ r. ⌜ r ≡ above part used ⌝ }
-{
-    let Pruned::Part(root) = part else {
-        return used;
-    };
-    root.used
-}
-
-// What is left of a pair, by what is left of its sides: of an alt either side, of any other pair both or nothing.
-fn pair_of(room: &mut [u32], kind: u32, left: Pruned, right: Pruned) -> Pruned
+// What is left of a pair whose left side is left over, by what is left of its right side: of an alt either side, of any
+// other pair both or nothing.
+fn pair_of(room: &mut [u32], kind: u32, left: Root, right: Pruned) -> Pruned
     requires { ⌜ Table (now room) (above right 0) ⌝ }
     ensures { λ r.
-        ⌜ r ≡ pairOf (now (room .entry)) kind left right
-        × now (room .exit) ≡ pairIn (now (room .entry)) kind left right ⌝ }
+      ⌜ r ≡ pairOf (now (room .entry)) kind left right
+      × now (room .exit) ≡ pairIn (now (room .entry)) kind left right ⌝ }
 {
-    let Pruned::Part(a) = left else {
+    let Pruned::Part(part) = right else {
         if kind == Node::ALT {
-            return right;
+            return Pruned::Part(left);
         }
         return Pruned::Nothing;
     };
-    let Pruned::Part(b) = right else {
-        if kind == Node::ALT {
-            return left;
-        }
-        return Pruned::Nothing;
-    };
-    Pruned::Part(places::add(
-        room,
-        Node {
-            kind: kind,
-            a: a.place,
-            b: b.place,
-        },
-        b.used,
-    ))
+    Pruned::Part(places::add(room, Node { kind: kind, a: left.place, b: part.place }, part.used))
 }
 
 // What is left of a loop, by what is left of its body: a loop of that, or an empty.
@@ -137,8 +114,14 @@ pub fn prune(room: &mut [u32], place: u32, lifeline: u32, used: u32) -> Pruned
         }
         Node::STRICT..=Node::ALT => {
             let left = prune(room, node.a, lifeline, used);
-            let right = prune(room, node.b, lifeline, count_with(left, used));
-            pair_of(room, kind, left, right)
+            let Pruned::Part(part) = left else {
+                if kind == Node::ALT {
+                    return prune(room, node.b, lifeline, used);
+                }
+                return Pruned::Nothing;
+            };
+            let right = prune(room, node.b, lifeline, part.used);
+            pair_of(room, kind, part, right)
         }
         Node::STRICT_LOOP..=Node::PAR_LOOP => {
             let body = prune(room, node.a, lifeline, used);
