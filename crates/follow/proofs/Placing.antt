@@ -24,6 +24,8 @@ use Rattle.room.specs.Room.{nodeIn, chartIn, Table, Rooted, Kept}
 use Rattle.room.specs.Building.{Held, Builds, Follows}
 use Rattle.room.proofs.Standing.{kept-self, kept-node, kept-chart, kept-table, kept-then}
 use Rattle.room.proofs.Apart.{
+  Reading,
+  Working,
   table-rooted,
   empty-here,
   action-here,
@@ -47,8 +49,28 @@ use Rattle.follow.proofs.Answering.{
 }
 use Rattle.follow.proofs.Pairing.{follows-of-a-pair, stands-beside}
 
-module _ (before : List ℕ) (used place k : ℕ) (a : Action) (table : Table before used) (root : Rooted before place)
-    (below : place < used) (n : Node) (here : n ≡ nodeIn before place) where
+module _ (work : Working) (k : ℕ) (a : Action) where
+  abbrev r : Reading
+  r = work .reading
+
+  abbrev before : List ℕ
+  before = r .room
+
+  abbrev used : ℕ
+  used = work .used
+
+  abbrev place : ℕ
+  place = r .place
+
+  abbrev n : Node
+  n = r .node
+
+  table : Table before used
+  table = work .table
+
+  below : place < used
+  below = work .below
+
   -- The follow-ups of what stood at a place.
   abbrev followsAt : ℕ → List Made
   followsAt p = follows (chartIn before p) a
@@ -60,27 +82,27 @@ module _ (before : List ℕ) (used place k : ℕ) (a : Action) (table : Table be
       (none-to-follow before used k before (kept-self used before))
 
   pub at-an-empty : n .kind ≡ 0 → Follows before used (followsAt place) k before (Missing k)
-  at-an-empty e = none-at-an-empty (empty-here before place root n here e)
+  at-an-empty e = none-at-an-empty (empty-here r e)
 
   pub at-the-unknown : 11 ≤ n .kind → Follows before used (followsAt place) k before (Missing k)
-  at-the-unknown e = none-at-an-empty (unknown-here before place root n here e)
+  at-the-unknown e = none-at-an-empty (unknown-here r e)
 
   pub at-an-action :
       (after : List ℕ) (answer : Executed) → 1 ≤ n .kind → n .kind ≤ 2
       → Follows before used (occurrences n a) k after answer → Follows before used (followsAt place) k after answer
   at-an-action after answer low high given =
-      let (r, is, acts) = action-here before place root n here low high in
+      let (receives, is, acts) = action-here r low high in
       let same : chartIn before place ≡ act (record { line = n .a; receives = eqb (n .kind) 2; message = n .b })
-      = acts ∙ ap (λ q. act (record { line = n .a; receives = q; message = n .b })) (sym (direction n r is)) in
+      = acts ∙ ap (λ q. act (record { line = n .a; receives = q; message = n .b })) (sym (direction n receives is)) in
       subst (λ c. Follows before used (follows c a) k after answer) (sym same) given
 
   -- A pair.
   module _ (low : 3 ≤ n .kind) (high : n .kind ≤ 6) where
     pub asks-left : (n .a < place) × (Table before used × Rooted before (n .a) × n .a < used)
-    asks-left = let (l, there) = left-lower before place root n here low high in (l, (table, there, omega arith))
+    asks-left = let (l, there) = left-lower r low high in (l, (table, there, omega arith))
 
     right-there : (n .b < place) × Rooted before (n .b)
-    right-there = right-lower before place root n here low high
+    right-there = right-lower r low high
 
     follows-there :
         (q : Pair) → kindOf (n .kind) ≡ pairs q
@@ -88,7 +110,7 @@ module _ (before : List ℕ) (used place k : ℕ) (a : Action) (table : Table be
         ≡ map (besideRight q (chartIn before (n .b))) (followsAt (n .a))
         ++ besideLeft q (chartIn before (n .a)) (a .line) (followsAt (n .b))
     follows-there q is =
-        ap (λ c. follows c a) (pair-here before place root n here q is)
+        ap (λ c. follows c a) (pair-here r q is)
         ∙ follows-of-a-pair q (chartIn before (n .a)) (chartIn before (n .b)) a
 
     -- A follow-up on its left side.
@@ -136,7 +158,7 @@ module _ (before : List ℕ) (used place k : ℕ) (a : Action) (table : Table be
 
         pub asks-to-turn : Rooted room (n .a) × Beside room (n .a) right
         asks-to-turn =
-            let (l, there) = left-lower before place root n here low high in
+            let (l, there) = left-lower r low high in
             let inside : n .a < length room = omega (arith, there .inside, on-left .1 .long, keeps-right .long) in (
               table-rooted room used (n .a) (kept-table used middle room keeps-right middle-table) (omega arith) inside,
               stands-beside middle used (n .a) (follows (chartIn middle (n .b)) a) more room right middle-table
@@ -150,7 +172,7 @@ module _ (before : List ℕ) (used place k : ℕ) (a : Action) (table : Table be
             → Follows before used (followsAt place) k after answer
         on-its-right after answer turns =
             let (q, is) = three-to-six-are-pairs (n .kind) low high in
-            let (l, l-there) = left-lower before place root n here low high in
+            let (l, l-there) = left-lower r low high in
             let (b, b-there) = right-there in
             let keeps : Kept used before room
             = kept-then used used before middle room (omega arith) (on-left .1) keeps-right in
@@ -171,7 +193,7 @@ module _ (before : List ℕ) (used place k : ℕ) (a : Action) (table : Table be
   -- A loop.
   module _ (low : 7 ≤ n .kind) (high : n .kind ≤ 10) where
     pub asks-body : (n .a < place) × (Table before used × Rooted before (n .a) × n .a < used)
-    asks-body = let (b, there) = body-lower before place root n here low high in (b, (table, there, omega arith))
+    asks-body = let (b, there) = body-lower r low high in (b, (table, there, omega arith))
 
     rounds-there :
         (l : Loop) → chartIn before place ≡ loop l (chartIn before (n .a))
@@ -183,7 +205,7 @@ module _ (before : List ℕ) (used place k : ℕ) (a : Action) (table : Table be
         (middle : List ℕ) (more : ℕ) → Follows before used (followsAt (n .a)) k middle (Missing more)
         → Follows before used (followsAt place) k middle (Missing more)
     no-round middle more on-body =
-        let (l, is, whole) = loop-here before place root n here low high in
+        let (l, is, whole) = loop-here r low high in
         subst (λ xs. Follows before used xs k middle (Missing more)) (sym (rounds-there l whole))
         (changed-missing before used (followsAt (n .a)) k (afterRound l (chartIn before (n .a)) (a .line)) middle more on-body)
 
@@ -194,7 +216,7 @@ module _ (before : List ℕ) (used place k : ℕ) (a : Action) (table : Table be
       pub asks-to-go-round : Held middle x × Rooted middle place × place < x .used
       asks-to-go-round =
           let more : used ≤ x .used = builds-more built (table .counted) in
-          let inside : place < length middle = omega (arith, root .inside, built .kept .long) in
+          let inside : place < length middle = omega (arith, r .root .inside, built .kept .long) in
           (built .held, table-rooted middle (x .used) place (built .held .table) (omega arith) inside, omega arith)
 
       pub one-round :
@@ -203,9 +225,9 @@ module _ (before : List ℕ) (used place k : ℕ) (a : Action) (table : Table be
           → Carries middle x (afterRound l (chartIn middle (nodeIn middle place .a)) (a .line)) after y)
           → Follows before used (followsAt place) k after (FollowUp y)
       one-round after y carries =
-          let (l, is, whole) = loop-here before place root n here low high in
-          let (b, there) = body-lower before place root n here low high in
-          let node : nodeIn middle place ≡ n = kept-node used before middle (built .kept) place below ∙ sym here in
+          let (l, is, whole) = loop-here r low high in
+          let (b, there) = body-lower r low high in
+          let node : nodeIn middle place ≡ n = kept-node used before middle (built .kept) place below ∙ sym (r .here) in
           let same : chartIn middle (nodeIn middle place .a) ≡ chartIn before (n .a)
           = ap (λ m. chartIn middle (m .a)) node
           ∙ kept-chart used before middle (built .kept) (n .a) (omega arith) (there .inside) in

@@ -24,10 +24,10 @@ use Rattle.node.proofs.Ranges.{strict-is-three, seq-is-four, par-is-five, weak-
 use Rattle.node.proofs.Numbering.{numberOf, kind-has-its-number, one-loop}
 use Rattle.room.specs.declared.Root.{Root}
 use Rattle.room.specs.declared.Pruned.{Pruned}
-use Rattle.room.specs.Room.{nodeIn, chartIn, Table, Rooted}
+use Rattle.room.specs.Room.{chartIn, Table, Rooted}
 use Rattle.room.specs.Building.{added, rootAt, Held, Builds, Prunes}
 use Rattle.room.proofs.Standing.{kept-chart}
-use Rattle.room.proofs.Apart.{table-rooted, loop-of-that-kind, body-lower}
+use Rattle.room.proofs.Apart.{Reading, table-rooted, loop-of-that-kind, body-lower}
 use Rattle.room.proofs.Adding.{builds-more, kept-builds, pair-builds, pair-builds-backward}
 use Rattle.pruning.specs.Sides.{above, loopOf, loopIn}
 use Rattle.pruning.proofs.Left.{prunes-table, loop-pruned}
@@ -86,10 +86,15 @@ module _ (room : List ℕ) (place kind : ℕ) (x : Root) (l : Loop) (b : Chart) 
       by k e {m} = rw e
 
 -- At a place, with a part x that its body became.
-module _ (room : List ℕ) (place d : ℕ) (x : Root) (held : Held room x) (root : Rooted room place)
-    (below : place < x .used) where
+module _ (r : Reading) (d : ℕ) (x : Root) (held : Held (r .room) x) (below : r .place < x .used) where
+  abbrev room : List ℕ
+  room = r .room
+
+  abbrev place : ℕ
+  place = r .place
+
   abbrev node : Node
-  node = nodeIn room place
+  node = r .node
 
   abbrev begunIn : List ℕ
   begunIn = added room (x .used) (record { kind = orderBetween (node .kind); a = x .place; b = place })
@@ -103,7 +108,7 @@ module _ (room : List ℕ) (place d : ℕ) (x : Root) (held : Held room x) (root
   pub at-another-loop :
       node .kind ≢ 9 → (l : Loop) → kindOf (node .kind) ≡ loops l → Carries room x (afterRound l body d) begunIn begunAt
   at-another-loop other l is =
-      round-of-another-loop room place (node .kind) x l body is (loop-of-that-kind room place root node refl l is)
+      round-of-another-loop room place (node .kind) x l body is (loop-of-that-kind r l is)
       (held .table) below d other
 
   -- At a weak loop.
@@ -114,11 +119,11 @@ module _ (room : List ℕ) (place d : ℕ) (x : Root) (held : Held room x) (root
     whole-round : Builds room (x .used) (begun (each seq) body (kept (chartIn room (x .place)))) begunIn begunAt
     whole-round =
         round-begun room place (node .kind) x (each seq) body weak
-        (loop-of-that-kind room place root node refl (each seq) weak) (held .table) below room (x .used)
+        (loop-of-that-kind r (each seq) weak) (held .table) below room (x .used)
         (kept (chartIn room (x .place))) (held .table) (kept-builds room (x .used) (x .place) (held .table) (held .below))
 
     body-there : (node .a < place) × Rooted room (node .a)
-    body-there = body-lower room place root node refl (omega arith) (omega arith)
+    body-there = body-lower r (omega arith) (omega arith)
 
     pub asks-to-prune : Table begunIn (begunAt .used) × Rooted begunIn (node .a) × node .a < begunAt .used
     asks-to-prune =
@@ -162,5 +167,5 @@ module _ (room : List ℕ) (place d : ℕ) (x : Root) (held : Held room x) (root
           (added frontIn (frontAt .used) (record { kind = 4; a = frontAt .place; b = begunAt .place }))
           (rootAt frontIn (frontAt .used))) same
           (round-of-a-weak-loop room place (node .kind) x (each seq) body weak
-          (loop-of-that-kind room place root node refl (each seq) weak) (held .table) below d nine frontIn frontAt
+          (loop-of-that-kind r (each seq) weak) (held .table) below d nine frontIn frontAt
           front-built)

@@ -27,8 +27,19 @@ use Rattle.room.specs.Room.{nodeIn, chartIn, Table, Rooted, Kept}
 use Rattle.room.specs.Building.{Builds, Prunes}
 use Rattle.room.proofs.Standing.{kept-self, kept-chart, kept-then, kept-table, table-less}
 use Rattle.room.proofs.Apart.{
-  table-rooted, kept-rooted, empty-here, action-here, order-here, alt-here, loop-here, unknown-here, left-lower,
-  right-lower, body-lower
+  Reading,
+  Working,
+  table-rooted,
+  kept-rooted,
+  empty-here,
+  action-here,
+  order-here,
+  alt-here,
+  loop-here,
+  unknown-here,
+  left-lower,
+  right-lower,
+  body-lower,
 }
 use Rattle.room.proofs.Adding.{
   builds-more,
@@ -127,27 +138,47 @@ loop-pruned before room used d b k kind table e Nothing (be, keeps) =
     (kept-then-builds (table .counted) keeps (empty-builds room used (kept-table used before room keeps table)))
 
 -- At a place, by the ranges of kinds over which the code decides.
-module _ (before : List ℕ) (used place d : ℕ) (table : Table before used) (root : Rooted before place)
-    (below : place < used) (n : Node) (here : n ≡ nodeIn before place) where
+module _ (work : Working) (d : ℕ) where
+  abbrev r : Reading
+  r = work .reading
+
+  abbrev before : List ℕ
+  before = r .room
+
+  abbrev used : ℕ
+  used = work .used
+
+  abbrev place : ℕ
+  place = r .place
+
+  abbrev n : Node
+  n = r .node
+
+  table : Table before used
+  table = work .table
+
+  below : place < used
+  below = work .below
+
   abbrev itself : Pruned
   itself = Part (record { place = place; used = used })
 
   pub at-an-empty : n .kind ≡ 0 → Prunes before used (chartIn before place) d before itself
-  at-an-empty k = empty-pruned before used place d table below (empty-here before place root n here k)
+  at-an-empty k = empty-pruned before used place d table below (empty-here r k)
 
   pub at-the-unknown : 11 ≤ n .kind → Prunes before used (chartIn before place) d before itself
-  at-the-unknown k = empty-pruned before used place d table below (unknown-here before place root n here k)
+  at-the-unknown k = empty-pruned before used place d table below (unknown-here r k)
 
   evades-here : 1 ≤ n .kind → n .kind ≤ 2 → evades (chartIn before place) d ≡ not (eqb (n .a) d)
   evades-here low high =
-      let (r, e, acts) = action-here before place root n here low high in
+      let (receives, e, acts) = action-here r low high in
       ap (λ c. evades c d) acts
 
   pub at-another-action :
       1 ≤ n .kind → n .kind ≤ 2 → n .a ≢ d → Prunes before used (chartIn before place) d before itself
   unfolding prune
   at-another-action low high other =
-      let (r, e, acts) = action-here before place root n here low high in
+      let (receives, e, acts) = action-here r low high in
       leaf-pruned before used place d table below (evades-here low high ∙ ap not (ne-eqb (n .a) d other))
       (ap (λ c. prune c d) acts ∙ ap kept (sym acts))
 
@@ -158,16 +189,16 @@ module _ (before : List ℕ) (used place d : ℕ) (table : Table before used) (r
 
   module _ (low : 3 ≤ n .kind) (high : n .kind ≤ 6) where
     pub asks-left : Table before used × Rooted before (n .a) × n .a < used
-    asks-left = let (a, there) = left-lower before place root n here low high in (table, there, omega arith)
+    asks-left = let (a, there) = left-lower r low high in (table, there, omega arith)
 
     right-there : (n .b < place) × Rooted before (n .b)
-    right-there = right-lower before place root n here low high
+    right-there = right-lower r low high
 
     -- Nothing is left of the left side.
     module _ (middle : List ℕ) (on-left : Prunes before used (chartIn before (n .a)) d middle Nothing) where
       pub at-a-lost-order : n .kind ≢ 6 → Prunes before used (chartIn before place) d middle Nothing
       at-a-lost-order other =
-          let (o, e, whole) = order-here before place root n here low (omega arith) in
+          let (o, e, whole) = order-here r low (omega arith) in
           rw whole (order-lost before middle used d (chartIn before (n .a)) (chartIn before (n .b)) table o on-left)
 
       pub asks-right-alone : Table middle used × Rooted middle (n .b) × n .b < used
@@ -185,7 +216,7 @@ module _ (before : List ℕ) (used place d : ℕ) (table : Table before used) (r
           let (b, there) = right-there in
           let same : chartIn middle (n .b) ≡ chartIn before (n .b)
           = kept-chart used before middle (on-left .1) (n .b) (omega arith) (there .inside) in
-          rw (alt-here before place root n here six)
+          rw (alt-here r six)
           (alt-by-its-right before middle used d (chartIn before (n .a)) (chartIn before (n .b)) table room right on-left
           (rw same at on-right))
 
@@ -223,17 +254,17 @@ module _ (before : List ℕ) (used place d : ℕ) (table : Table before used) (r
                 → Prunes before used (chartIn before place) d (pairIn room (n .kind) left right)
                 (pairOf room (n .kind) left right)
             by (yes six) =
-                rw (alt-here before place root n here six)
+                rw (alt-here r six)
                 (alt-pruned before middle used d (chartIn before (n .a)) (chartIn before (n .b)) table room left (n .kind)
                 six right on-left (rw same at on-right))
             by (no other) =
-                let (o, e, whole) = order-here before place root n here low (omega arith) in
+                let (o, e, whole) = order-here r low (omega arith) in
                 rw whole
                 (order-pruned before middle used d (chartIn before (n .a)) (chartIn before (n .b)) table room left
                 (n .kind) o e (ne-eqb (n .kind) 6 other) right on-left (rw same at on-right))
 
   pub asks-body : 7 ≤ n .kind → n .kind ≤ 10 → Table before used × Rooted before (n .a) × n .a < used
-  asks-body low high = let (a, there) = body-lower before place root n here low high in (table, there, omega arith)
+  asks-body low high = let (a, there) = body-lower r low high in (table, there, omega arith)
 
   pub above-body :
       (room : List ℕ) (body : Pruned) → Prunes before used (chartIn before (n .a)) d room body → Table room (above body used)
@@ -243,5 +274,5 @@ module _ (before : List ℕ) (used place d : ℕ) (table : Table before used) (r
       (room : List ℕ) (body : Pruned) → 7 ≤ n .kind → n .kind ≤ 10 → Prunes before used (chartIn before (n .a)) d room body
       → Prunes before used (chartIn before place) d (loopIn room (n .kind) body used) (Part (loopOf room body used))
   at-a-loop room body low high on-body =
-      let (k, e, whole) = loop-here before place root n here low high in
+      let (k, e, whole) = loop-here r low high in
       rw whole (refl, loop-pruned before room used d (chartIn before (n .a)) k (n .kind) table e body on-body)

@@ -50,8 +50,8 @@ pub fn evades(room: &[u32], place: u32, lifeline: u32) -> bool
 fn pair_of(room: &mut [u32], kind: u32, left: Root, right: Pruned) -> Pruned
     requires { ⌜ Table (now room) (above right 0) ⌝ }
     ensures { λ r.
-      ⌜ r ≡ pairOf (now (room .entry)) kind left right
-      × now (room .exit) ≡ pairIn (now (room .entry)) kind left right ⌝ }
+        ⌜ r ≡ pairOf (now (room .entry)) kind left right
+        × now (room .exit) ≡ pairIn (now (room .entry)) kind left right ⌝ }
 {
     let Pruned::Part(part) = right else {
         if kind == Node::ALT {
@@ -59,7 +59,15 @@ fn pair_of(room: &mut [u32], kind: u32, left: Root, right: Pruned) -> Pruned
         }
         return Pruned::Nothing;
     };
-    Pruned::Part(places::add(room, Node { kind: kind, a: left.place, b: part.place }, part.used))
+    Pruned::Part(places::add(
+        room,
+        Node {
+            kind: kind,
+            a: left.place,
+            b: part.place,
+        },
+        part.used,
+    ))
 }
 
 // What is left of a loop, by what is left of its body: a loop of that, or an empty.

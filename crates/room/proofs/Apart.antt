@@ -41,26 +41,50 @@ pub kept-rooted :
 kept-rooted used before after place kept table root h =
     table-rooted after used place (kept-table used before after kept table) h (omega (arith, root .inside, kept .long))
 
-module _ (room : List ℕ) (place : ℕ) (root : Rooted room place) (n : Node) (here : n ≡ nodeIn room place) where
+-- A part at a place, and its node as it was read.
+pub record Reading : Type 0 where
+  pub room : List ℕ
+  pub place : ℕ
+  pub root : Rooted room place
+  pub node : Node
+  pub here : node ≡ nodeIn room place
+
+-- The same, to be pruned or executed above the places in use.
+pub record Working : Type 0 where
+  pub reading : Reading
+  pub used : ℕ
+  pub table : Table (reading .room) used
+  pub below : reading .place < used
+
+module _ (r : Reading) where
+  abbrev room : List ℕ
+  room = r .room
+
+  abbrev place : ℕ
+  place = r .place
+
+  abbrev n : Node
+  n = r .node
+
   chart-as : (k : Kind) → kindOf (n .kind) ≡ k → chartIn room place ≡ standsAs k (charts (nodesIn room)) n
   chart-as k e =
-      chart-at room place (root .inside) (root .table .lower place (omega arith) (root .inside))
-      ∙ ap (stands (charts (nodesIn room))) (sym here) ∙ ap (λ m. standsAs m (charts (nodesIn room)) n) e
+      chart-at room place (r .root .inside) (r .root .table .lower place (omega arith) (r .root .inside))
+      ∙ ap (stands (charts (nodesIn room))) (sym (r .here)) ∙ ap (λ m. standsAs m (charts (nodesIn room)) n) e
 
   lower : Below place (children n)
-  lower = subst (λ m. Below place (children m)) (sym here) (root .table .lower place (omega arith) (root .inside))
+  lower = subst (λ m. Below place (children m)) (sym (r .here)) (r .root .table .lower place (omega arith) (r .root .inside))
 
   rooted-below : (p : ℕ) → p < place → Rooted room p
-  rooted-below p h = table-rooted room (suc place) p (root .table) (omega arith) (omega (arith, root .inside))
+  rooted-below p h = table-rooted room (suc place) p (r .root .table) (omega arith) (omega (arith, r .root .inside))
 
   pub empty-here : n .kind ≡ 0 → chartIn room place ≡ empty
   empty-here k = chart-as nothing (zero-is-nothing (n .kind) k)
 
   pub action-here :
       1 ≤ n .kind → n .kind ≤ 2
-      → (r : Bool) × (kindOf (n .kind) ≡ action r)
-      × (chartIn room place ≡ act (record { line = n .a; receives = r; message = n .b }))
-  action-here low high = let (r, e) = one-and-two-are-actions (n .kind) low high in (r, e, chart-as (action r) e)
+      → (receives : Bool) × (kindOf (n .kind) ≡ action receives)
+      × (chartIn room place ≡ act (record { line = n .a; receives = receives; message = n .b }))
+  action-here low high = let (receives, e) = one-and-two-are-actions (n .kind) low high in (receives, e, chart-as (action receives) e)
 
   pub order-here :
       3 ≤ n .kind → n .kind ≤ 5

@@ -10,8 +10,8 @@ use Rattle.chart.specs.Chart.{Chart, Order, Loop}
 use Rattle.chart.specs.Chart.Chart.{empty, alt, pair, loop}
 use Rattle.chart.specs.Executing.{terminates, evades}
 use Rattle.node.specs.declared.Node.{Node}
-use Rattle.room.specs.Room.{nodeIn, chartIn, Rooted}
-use Rattle.room.proofs.Apart.{empty-here, order-here, alt-here, loop-here, unknown-here}
+use Rattle.room.specs.Room.{chartIn}
+use Rattle.room.proofs.Apart.{Reading, empty-here, order-here, alt-here, loop-here, unknown-here}
 
 pub record Descends (f : Chart → Bool) : Type 0 where
   pub at-empty : f empty ≡ true
@@ -43,31 +43,39 @@ and-undecided : (p q : Bool) → p ≡ true → q ≡ (p && q)
 and-undecided true q e = refl
 and-undecided false q e = cc
 
-module _ {f : Chart → Bool} (descends : Descends f) (room : List ℕ) (place : ℕ) (root : Rooted room place) (n : Node)
-    (here : n ≡ nodeIn room place) where
+module _ {f : Chart → Bool} (descends : Descends f) (r : Reading) where
+  abbrev room : List ℕ
+  room = r .room
+
+  abbrev place : ℕ
+  place = r .place
+
+  abbrev n : Node
+  n = r .node
+
   abbrev asked : ℕ → Bool
   asked p = f (chartIn room p)
 
   pub yes-at-empty : n .kind ≡ 0 → true ≡ asked place
-  yes-at-empty k = sym (ap f (empty-here room place root n here k) ∙ descends .at-empty)
+  yes-at-empty k = sym (ap f (empty-here r k) ∙ descends .at-empty)
 
   pub yes-at-a-loop : 7 ≤ n .kind → n .kind ≤ 10 → true ≡ asked place
   yes-at-a-loop low high =
-      let (k, e, loops) = loop-here room place root n here low high in
+      let (k, e, loops) = loop-here r low high in
       sym (ap f loops ∙ descends .at-loop k (chartIn room (n .a)))
 
   pub yes-at-the-unknown : 11 ≤ n .kind → true ≡ asked place
-  yes-at-the-unknown k = sym (ap f (unknown-here room place root n here k) ∙ descends .at-empty)
+  yes-at-the-unknown k = sym (ap f (unknown-here r k) ∙ descends .at-empty)
 
   module _ (left : Bool) (on-left : left ≡ asked (n .a)) where
     asked-of-an-alt : n .kind ≡ 6 → (left || asked (n .b)) ≡ asked place
     asked-of-an-alt k =
         ap (λ p. p || asked (n .b)) on-left
-        ∙ sym (ap f (alt-here room place root n here k) ∙ descends .at-alt (chartIn room (n .a)) (chartIn room (n .b)))
+        ∙ sym (ap f (alt-here r k) ∙ descends .at-alt (chartIn room (n .a)) (chartIn room (n .b)))
 
     asked-of-a-pair : 3 ≤ n .kind → n .kind ≤ 5 → (left && asked (n .b)) ≡ asked place
     asked-of-a-pair low high =
-        let (o, e, pairs) = order-here room place root n here low high in
+        let (o, e, pairs) = order-here r low high in
         ap (λ p. p && asked (n .b)) on-left
         ∙ sym (ap f pairs ∙ descends .at-pair o (chartIn room (n .a)) (chartIn room (n .b)))
 

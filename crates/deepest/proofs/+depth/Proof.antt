@@ -1,174 +1,109 @@
+-- `depth` ends, and a chart is no deeper than its place is high. Assumes nothing.
+use mathlib.Core.Path.{_≡_}
 use native.Mathlib.Omega.{arith}
-use Rattle.room.proofs.Apart.{left-lower, right-lower, body-lower}
+use Rattle.room.proofs.Apart.{Reading, left-lower, right-lower, body-lower}
 use Prim.Native.Nat.{ℕ, _<_}
 use borrow.Fn.Kinds.{In}
 use borrow.Fn.PlainCycle.{Measures, is, falls, and}
-use Rattle.deepest.proofs.depth.Reads as depth
-use Rattle.deepest.proofs.depth.Kinds as depth-kinds
-use Rattle.deepest.proofs.+depth.Lts-depth as depth-lts
 use Rattle.deepest.proofs.larger.Reads as larger-reads
 use Rattle.places.proofs.read.Reads as read-reads
+use Rattle.deepest.proofs.depth.Reads as f
+use Rattle.deepest.proofs.depth.Kinds as kinds
+use Rattle.deepest.proofs.+depth.Lts-depth as lts
 use Rattle.deepest.proofs.+depth.{statement}
 use Rattle.deepest.proofs.+depth.Tie.{close}
 
-abbrev μ-depth : Measures 1 depth-kinds.ps ℕ
-μ-depth κs a = a .1 .0
+-- The place number falls at each call.
+abbrev μ : Measures 1 kinds.ps ℕ
+μ κs a = a .1 .0
 
-abbrev depth-at : ℕ → In 1 depth-kinds.ps
-depth-at t = and 1 depth-kinds.ps (is 1 depth-kinds.ps μ-depth t) depth.Pre
+module _ (t : ℕ) where
+  abbrev given : In 1 kinds.ps
+  given = and 1 kinds.ps (is 1 kinds.ps μ t) f.Pre
 
-abbrev depth-below : ℕ → In 1 depth-kinds.ps
-depth-below t = and 1 depth-kinds.ps (falls 1 depth-kinds.ps _<_ μ-depth t) depth.Pre
+  abbrev below : In 1 kinds.ps
+  below = and 1 kinds.ps (falls 1 kinds.ps _<_ μ t) f.Pre
 
-depth-read-requires : (t : ℕ) → depth-lts.Need-read-requires (
-  read-reads.Asked,
-  read-reads.Learnt,
-  depth-below t,
-  depth.Post,
-  larger-reads.Asked,
-  larger-reads.Learnt,
-) (depth-at t) depth.Post
-depth-read-requires t c κs =
-    c .before .pre .1 .inside
+  abbrev claims : lts.Claims
+  claims = (read-reads.Asked, read-reads.Learnt, below, f.Post, larger-reads.Asked, larger-reads.Learnt)
 
-depth-depth-requires : (t : ℕ) → depth-lts.Need-depth-requires (
-  read-reads.Asked,
-  read-reads.Learnt,
-  depth-below t,
-  depth.Post,
-  larger-reads.Asked,
-  larger-reads.Learnt,
-) (depth-at t) depth.Post
-depth-depth-requires t c κs =
-    let (lower, root) = left-lower (c .before .before .before .before .args .room .now) (c .before .before .before .before .args .place) (c .before .before .before .before .pre .1) (c .before .before .read .result) (c .before .before .read .ensures) (omega arith) (omega arith) in
-    (omega (arith, c .before .before .before .before .pre .0), root)
+  -- The part, with its node.
+  abbrev reading : lts.After-read claims given f.Post → Reading
+  reading c =
+      record {
+        room = c .before .before .args .room .now;
+        place = c .before .before .args .place;
+        root = c .before .before .pre .1;
+        node = c .read .result;
+        here = c .read .ensures;
+      }
 
-depth-depth-requires-2 : (t : ℕ) → depth-lts.Need-depth-requires-2 (
-  read-reads.Asked,
-  read-reads.Learnt,
-  depth-below t,
-  depth.Post,
-  larger-reads.Asked,
-  larger-reads.Learnt,
-) (depth-at t) depth.Post
-depth-depth-requires-2 t c κs =
-    let (lower, root) = right-lower (c .before .before .before .before .before .args .room .now) (c .before .before .before .before .before .args .place) (c .before .before .before .before .before .pre .1) (c .before .before .before .read .result) (c .before .before .before .read .ensures) (omega arith) (omega arith) in
-    (omega (arith, c .before .before .before .before .before .pre .0), root)
+  -- The measure is the place number.
+  at-place : (c : lts.After-read claims given f.Post) → reading c .place ≡ t
+  at-place c = c .before .before .pre .0
 
-depth-larger-requires : (t : ℕ) → depth-lts.Need-larger-requires (
-  read-reads.Asked,
-  read-reads.Learnt,
-  depth-below t,
-  depth.Post,
-  larger-reads.Asked,
-  larger-reads.Learnt,
-) (depth-at t) depth.Post
-depth-larger-requires t c κs =
-    tt
+  read-requires : lts.Need-read-requires claims given f.Post
+  read-requires c κs = c .before .pre .1 .inside
 
-depth-add-result : (t : ℕ) → depth-lts.Need-add-result (
-  read-reads.Asked,
-  read-reads.Learnt,
-  depth-below t,
-  depth.Post,
-  larger-reads.Asked,
-  larger-reads.Learnt,
-) (depth-at t) depth.Post
-depth-add-result t c =
-    let (left, root) = left-lower (c .before .before .before .before .before .before .before .args .room .now) (c .before .before .before .before .before .before .before .args .place) (c .before .before .before .before .before .before .before .pre .1) (c .before .before .before .before .before .read .result) (c .before .before .before .before .before .read .ensures) (omega arith) (omega arith) in
-    let (right, root) = right-lower (c .before .before .before .before .before .before .before .args .room .now) (c .before .before .before .before .before .before .before .args .place) (c .before .before .before .before .before .before .before .pre .1) (c .before .before .before .before .before .read .result) (c .before .before .before .before .before .read .ensures) (omega arith) (omega arith) in
-    omega (arith, c .larger .ensures, c .before .before .depth .ensures, c .before .depth2 .ensures, c .before .before .before .before .before .before .before .pre .1 .inside, c .before .before .before .before .before .before .before .pre .1 .table .usable)
+  depth-requires : lts.Need-depth-requires claims given f.Post
+  depth-requires c κs =
+      let r = c .before .before in
+      let (lower, root) = left-lower (reading r) (omega arith) (omega arith) in
+      (omega (arith, at-place r), root)
 
-depth-depth-requires-3 : (t : ℕ) → depth-lts.Need-depth-requires-3 (
-  read-reads.Asked,
-  read-reads.Learnt,
-  depth-below t,
-  depth.Post,
-  larger-reads.Asked,
-  larger-reads.Learnt,
-) (depth-at t) depth.Post
-depth-depth-requires-3 t c κs =
-    let (lower, root) = body-lower (c .before .before .before .before .before .args .room .now) (c .before .before .before .before .before .args .place) (c .before .before .before .before .before .pre .1) (c .before .before .before .read .result) (c .before .before .before .read .ensures) (omega arith) (omega arith) in
-    (omega (arith, c .before .before .before .before .before .pre .0), root)
+  depth-requires-2 : lts.Need-depth-requires-2 claims given f.Post
+  depth-requires-2 c κs =
+      let r = c .before .before .before in
+      let (lower, root) = right-lower (reading r) (omega arith) (omega arith) in
+      (omega (arith, at-place r), root)
 
-depth-add-result-2 : (t : ℕ) → depth-lts.Need-add-result-2 (
-  read-reads.Asked,
-  read-reads.Learnt,
-  depth-below t,
-  depth.Post,
-  larger-reads.Asked,
-  larger-reads.Learnt,
-) (depth-at t) depth.Post
-depth-add-result-2 t c =
-    let (lower, root) = body-lower (c .before .before .before .before .before .before .args .room .now) (c .before .before .before .before .before .before .args .place) (c .before .before .before .before .before .before .pre .1) (c .before .before .before .before .read .result) (c .before .before .before .before .read .ensures) (omega arith) (omega arith) in
-    omega (arith, c .depth3 .ensures, c .before .before .before .before .before .before .pre .1 .inside, c .before .before .before .before .before .before .pre .1 .table .usable)
+  larger-requires : lts.Need-larger-requires claims given f.Post
+  larger-requires c κs = tt
 
-depth-returns : (t : ℕ) → depth-lts.Need-returns (
-  read-reads.Asked,
-  read-reads.Learnt,
-  depth-below t,
-  depth.Post,
-  larger-reads.Asked,
-  larger-reads.Learnt,
-) (depth-at t) depth.Post
-depth-returns t c =
-    let (left, root) = left-lower (c .before .before .before .before .before .before .before .args .room .now) (c .before .before .before .before .before .before .before .args .place) (c .before .before .before .before .before .before .before .pre .1) (c .before .before .before .before .before .read .result) (c .before .before .before .before .before .read .ensures) (omega arith) (omega arith) in
-    let (right, root) = right-lower (c .before .before .before .before .before .before .before .args .room .now) (c .before .before .before .before .before .before .before .args .place) (c .before .before .before .before .before .before .before .pre .1) (c .before .before .before .before .before .read .result) (c .before .before .before .before .before .read .ensures) (omega arith) (omega arith) in
-    omega (arith, c .larger .ensures, c .before .before .depth .ensures, c .before .depth2 .ensures)
+  add-result : lts.Need-add-result claims given f.Post
+  add-result c =
+      let r = c .before .before .before .before .before in
+      let root = r .before .before .pre .1 in
+      let (left, l) = left-lower (reading r) (omega arith) (omega arith) in
+      let (right, b) = right-lower (reading r) (omega arith) (omega arith) in
+      let few = root .table .usable in
+      omega (arith, c .larger .ensures, c .before .before .depth .ensures, c .before .depth2 .ensures, root .inside)
 
-depth-returns-2 : (t : ℕ) → depth-lts.Need-returns-2 (
-  read-reads.Asked,
-  read-reads.Learnt,
-  depth-below t,
-  depth.Post,
-  larger-reads.Asked,
-  larger-reads.Learnt,
-) (depth-at t) depth.Post
-depth-returns-2 t c =
-    let (lower, root) = body-lower (c .before .before .before .before .before .before .args .room .now) (c .before .before .before .before .before .before .args .place) (c .before .before .before .before .before .before .pre .1) (c .before .before .before .before .read .result) (c .before .before .before .before .read .ensures) (omega arith) (omega arith) in
-    omega (arith, c .depth3 .ensures)
+  depth-requires-3 : lts.Need-depth-requires-3 claims given f.Post
+  depth-requires-3 c κs =
+      let r = c .before .before .before in
+      let (lower, root) = body-lower (reading r) (omega arith) (omega arith) in
+      (omega (arith, at-place r), root)
 
-depth-returns-3 : (t : ℕ) → depth-lts.Need-returns-3 (
-  read-reads.Asked,
-  read-reads.Learnt,
-  depth-below t,
-  depth.Post,
-  larger-reads.Asked,
-  larger-reads.Learnt,
-) (depth-at t) depth.Post
-depth-returns-3 t c =
-    omega arith
+  add-result-2 : lts.Need-add-result-2 claims given f.Post
+  add-result-2 c =
+      let r = c .before .before .before .before in
+      let root = r .before .before .pre .1 in
+      let (lower, b) = body-lower (reading r) (omega arith) (omega arith) in
+      omega (arith, c .depth3 .ensures, root .inside, root .table .usable)
 
-depth-returns-4 : (t : ℕ) → depth-lts.Need-returns-4 (
-  read-reads.Asked,
-  read-reads.Learnt,
-  depth-below t,
-  depth.Post,
-  larger-reads.Asked,
-  larger-reads.Learnt,
-) (depth-at t) depth.Post
-depth-returns-4 t c =
-    omega arith
+  returns : lts.Need-returns claims given f.Post
+  returns c =
+      let r = c .before .before .before .before .before in
+      let (left, l) = left-lower (reading r) (omega arith) (omega arith) in
+      let (right, b) = right-lower (reading r) (omega arith) (omega arith) in
+      omega (arith, c .larger .ensures, c .before .before .depth .ensures, c .before .depth2 .ensures)
+
+  returns-2 : lts.Need-returns-2 claims given f.Post
+  returns-2 c =
+      let r = c .before .before .before .before in
+      let (lower, b) = body-lower (reading r) (omega arith) (omega arith) in
+      omega (arith, c .depth3 .ensures)
+
+  returns-3 : lts.Need-returns-3 claims given f.Post
+  returns-3 c = omega arith
+
+  returns-4 : lts.Need-returns-4 claims given f.Post
+  returns-4 c = omega arith
 
 pub +depth-spec : {M : Type 1} → statement M
-+depth-spec = close μ-depth λ t. depth-lts.spec (
-  read-reads.Asked,
-  read-reads.Learnt,
-  depth-below t,
-  depth.Post,
-  larger-reads.Asked,
-  larger-reads.Learnt,
-)
-    (depth-at t)
-    depth.Post
-    (depth-read-requires t)
-    (depth-depth-requires t)
-    (depth-depth-requires-2 t)
-    (depth-larger-requires t)
-    (depth-add-result t)
-    (depth-depth-requires-3 t)
-    (depth-add-result-2 t)
-    (depth-returns t)
-    (depth-returns-2 t)
-    (depth-returns-3 t)
-    (depth-returns-4 t)
++depth-spec =
+    close μ λ t.
+    lts.spec (claims t) (given t) f.Post
+    (read-requires t) (depth-requires t) (depth-requires-2 t) (larger-requires t) (add-result t)
+    (depth-requires-3 t) (add-result-2 t) (returns t) (returns-2 t) (returns-3 t) (returns-4 t)

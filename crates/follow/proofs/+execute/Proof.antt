@@ -1,516 +1,270 @@
-use borrow.Author.Needs.{needs}
-use mathlib.Core.Path.{refl, _∙_}
+-- `execute` meets its contract: at each kind the answer is for the follow-ups of the chart, from the answers at its
+-- parts. Assumes nothing.
+use mathlib.Core.Path.{_≡_, refl, _∙_}
 use native.Mathlib.Omega.{arith}
+use borrow.Author.Needs.{needs}
+use Rattle.chart.specs.Action as chart
 use Rattle.room.specs.Building.{actionOf}
+use Rattle.room.proofs.Apart.{Working}
 use Rattle.follow.proofs.Placing.{at-an-empty, at-the-unknown, at-an-action, asks-left, asks-to-carry, on-its-left, asks-right, asks-to-turn, on-its-right, asks-body, no-round, asks-to-go-round, one-round}
-use Prim.Native.Nat.{ℕ, _<_}
+use Prim.Native.Nat.{ℕ, _<_, _≤_}
 use borrow.Fn.Kinds.{In}
 use borrow.Fn.PlainCycle.{Measures, is, falls, and}
-use Rattle.follow.proofs.execute.Reads as execute
-use Rattle.follow.proofs.execute.Kinds as execute-kinds
-use Rattle.follow.proofs.+execute.Lts-execute as execute-lts
 use Rattle.follow.proofs.after_round.Reads as after-round-reads
 use Rattle.follow.proofs.on_action.Reads as on-action-reads
 use Rattle.follow.proofs.on_left.Reads as on-left-reads
 use Rattle.follow.proofs.on_right.Reads as on-right-reads
 use Rattle.places.proofs.read.Reads as read-reads
+use Rattle.follow.proofs.execute.Reads as f
+use Rattle.follow.proofs.execute.Kinds as kinds
+use Rattle.follow.proofs.+execute.Lts-execute as lts
 use Rattle.follow.proofs.+execute.{statement}
 use Rattle.follow.proofs.+execute.Tie.{close}
 
-abbrev μ-execute : Measures 1 execute-kinds.ps ℕ
-μ-execute κs a = a .1 .0
+-- The place number falls at each call.
+abbrev μ : Measures 1 kinds.ps ℕ
+μ κs a = a .1 .0
 
-abbrev execute-at : ℕ → In 1 execute-kinds.ps
-execute-at t = and 1 execute-kinds.ps (is 1 execute-kinds.ps μ-execute t) execute.Pre
+module _ (t : ℕ) where
+  abbrev given : In 1 kinds.ps
+  given = and 1 kinds.ps (is 1 kinds.ps μ t) f.Pre
 
-abbrev execute-below : ℕ → In 1 execute-kinds.ps
-execute-below t = and 1 execute-kinds.ps (falls 1 execute-kinds.ps _<_ μ-execute t) execute.Pre
+  abbrev below : In 1 kinds.ps
+  below = and 1 kinds.ps (falls 1 kinds.ps _<_ μ t) f.Pre
 
-execute-read-requires : (t : ℕ) → execute-lts.Need-read-requires (
-  read-reads.Asked,
-  read-reads.Learnt,
-  on-action-reads.Asked,
-  on-action-reads.Learnt,
-  execute-below t,
-  execute.Post,
-  on-left-reads.Asked,
-  on-left-reads.Learnt,
-  on-right-reads.Asked,
-  on-right-reads.Learnt,
-  after-round-reads.Asked,
-  after-round-reads.Learnt,
-) (execute-at t) execute.Post
-execute-read-requires t c κs =
-    c .before .before .pre .1 .1 .inside
+  abbrev claims : lts.Claims
+  claims = (
+    read-reads.Asked,
+    read-reads.Learnt,
+    on-action-reads.Asked,
+    on-action-reads.Learnt,
+    below,
+    f.Post,
+    on-left-reads.Asked,
+    on-left-reads.Learnt,
+    on-right-reads.Asked,
+    on-right-reads.Learnt,
+    after-round-reads.Asked,
+    after-round-reads.Learnt,
+  )
 
-execute-on-action-requires : (t : ℕ) → execute-lts.Need-on-action-requires (
-  read-reads.Asked,
-  read-reads.Learnt,
-  on-action-reads.Asked,
-  on-action-reads.Learnt,
-  execute-below t,
-  execute.Post,
-  on-left-reads.Asked,
-  on-left-reads.Learnt,
-  on-right-reads.Asked,
-  on-right-reads.Learnt,
-  after-round-reads.Asked,
-  after-round-reads.Learnt,
-) (execute-at t) execute.Post
-execute-on-action-requires t c κs =
-    c .before .before .before .before .before .before .pre .1 .0
+  -- The part to be executed, with its node.
+  abbrev work : lts.After-read claims given f.Post → Working
+  work c =
+      let start = c .before .before .before in
+      record {
+        reading =
+            record {
+              room = start .args .room .now;
+              place = start .args .place;
+              root = start .pre .1 .1;
+              node = c .read .result;
+              here = c .read .ensures;
+            };
+        used = start .args .used;
+        table = start .pre .1 .0;
+        below = start .pre .1 .2;
+      }
 
-execute-execute-requires : (t : ℕ) → execute-lts.Need-execute-requires (
-  read-reads.Asked,
-  read-reads.Learnt,
-  on-action-reads.Asked,
-  on-action-reads.Learnt,
-  execute-below t,
-  execute.Post,
-  on-left-reads.Asked,
-  on-left-reads.Learnt,
-  on-right-reads.Asked,
-  on-right-reads.Learnt,
-  after-round-reads.Asked,
-  after-round-reads.Learnt,
-) (execute-at t) execute.Post
-execute-execute-requires t c κs =
-    let (lower, asks) = asks-left (c .before .before .before .before .before .before .before .args .room .now) (c .before .before .before .before .before .before .before .args .used) (c .before .before .before .before .before .before .before .args .place) (c .before .before .before .before .before .before .before .args .k) (actionOf (c .before .before .before .before .before .before .before .args .action)) (c .before .before .before .before .before .before .before .pre .1 .0) (c .before .before .before .before .before .before .before .pre .1 .1) (c .before .before .before .before .before .before .before .pre .1 .2) (c .before .before .before .before .read .result) (c .before .before .before .before .read .ensures) (omega arith) (omega arith) in
-    (omega (arith, c .before .before .before .before .before .before .before .pre .0), asks)
+  -- Which occurrence of which action.
+  abbrev occurrence : lts.After-read claims given f.Post → ℕ
+  occurrence c = c .before .before .before .args .k
 
-execute-enum-known-left : (t : ℕ) → execute-lts.Need-enum-known-left (
-  read-reads.Asked,
-  read-reads.Learnt,
-  on-action-reads.Asked,
-  on-action-reads.Learnt,
-  execute-below t,
-  execute.Post,
-  on-left-reads.Asked,
-  on-left-reads.Learnt,
-  on-right-reads.Asked,
-  on-right-reads.Learnt,
-  after-round-reads.Asked,
-  after-round-reads.Learnt,
-) (execute-at t) execute.Post
-execute-enum-known-left t c =
-    search needs
+  abbrev action : lts.After-read claims given f.Post → chart.Action
+  action c = actionOf (c .before .before .before .args .action)
 
-execute-on-left-requires : (t : ℕ) → execute-lts.Need-on-left-requires (
-  read-reads.Asked,
-  read-reads.Learnt,
-  on-action-reads.Asked,
-  on-action-reads.Learnt,
-  execute-below t,
-  execute.Post,
-  on-left-reads.Asked,
-  on-left-reads.Learnt,
-  on-right-reads.Asked,
-  on-right-reads.Learnt,
-  after-round-reads.Asked,
-  after-round-reads.Learnt,
-) (execute-at t) execute.Post
-execute-on-left-requires t c κs =
-    asks-to-carry (c .before .before .before .before .before .before .before .before .before .before .before .before .before .before .args .room .now) (c .before .before .before .before .before .before .before .before .before .before .before .before .before .before .args .used) (c .before .before .before .before .before .before .before .before .before .before .before .before .before .before .args .place) (c .before .before .before .before .before .before .before .before .before .before .before .before .before .before .args .k) (actionOf (c .before .before .before .before .before .before .before .before .before .before .before .before .before .before .args .action)) (c .before .before .before .before .before .before .before .before .before .before .before .before .before .before .pre .1 .0) (c .before .before .before .before .before .before .before .before .before .before .before .before .before .before .pre .1 .1) (c .before .before .before .before .before .before .before .before .before .before .before .before .before .before .pre .1 .2) (c .before .before .before .before .before .before .before .before .before .before .before .read .result) (c .before .before .before .before .before .before .before .before .before .before .before .read .ensures) (omega arith) (omega arith) (c .before .before .before .before .before .before .execute .last .0) (c .before .before .left .given .0 .0) (rw (c .before .before .left .given .1) at (c .before .before .before .before .before .before .execute .ensures))
+  -- A pair was read, or a loop.
+  is-pair : (c : lts.Then2 claims given f.Post)
+      → (3 ≤ c .before .before .before .read .result .kind) × (c .before .before .before .read .result .kind ≤ 6)
+  is-pair c = (omega arith, omega arith)
 
-execute-enum-known-left-2 : (t : ℕ) → execute-lts.Need-enum-known-left-2 (
-  read-reads.Asked,
-  read-reads.Learnt,
-  on-action-reads.Asked,
-  on-action-reads.Learnt,
-  execute-below t,
-  execute.Post,
-  on-left-reads.Asked,
-  on-left-reads.Learnt,
-  on-right-reads.Asked,
-  on-right-reads.Learnt,
-  after-round-reads.Asked,
-  after-round-reads.Learnt,
-) (execute-at t) execute.Post
-execute-enum-known-left-2 t c =
-    search needs
+  is-loop : (c : lts.Then3 claims given f.Post)
+      → (7 ≤ c .before .before .before .before .read .result .kind)
+      × (c .before .before .before .before .read .result .kind ≤ 10)
+  is-loop c = (omega arith, omega arith)
 
-execute-execute-requires-2 : (t : ℕ) → execute-lts.Need-execute-requires-2 (
-  read-reads.Asked,
-  read-reads.Learnt,
-  on-action-reads.Asked,
-  on-action-reads.Learnt,
-  execute-below t,
-  execute.Post,
-  on-left-reads.Asked,
-  on-left-reads.Learnt,
-  on-right-reads.Asked,
-  on-right-reads.Learnt,
-  after-round-reads.Asked,
-  after-round-reads.Learnt,
-) (execute-at t) execute.Post
-execute-execute-requires-2 t c κs =
-    let (lower, asks) = asks-right (c .before .before .before .before .before .before .before .before .before .before .before .before .before .before .args .room .now) (c .before .before .before .before .before .before .before .before .before .before .before .before .before .before .args .used) (c .before .before .before .before .before .before .before .before .before .before .before .before .before .before .args .place) (c .before .before .before .before .before .before .before .before .before .before .before .before .before .before .args .k) (actionOf (c .before .before .before .before .before .before .before .before .before .before .before .before .before .before .args .action)) (c .before .before .before .before .before .before .before .before .before .before .before .before .before .before .pre .1 .0) (c .before .before .before .before .before .before .before .before .before .before .before .before .before .before .pre .1 .1) (c .before .before .before .before .before .before .before .before .before .before .before .before .before .before .pre .1 .2) (c .before .before .before .before .before .before .before .before .before .before .before .read .result) (c .before .before .before .before .before .before .before .before .before .before .before .read .ensures) (omega arith) (omega arith) (c .before .before .before .before .before .before .execute .last .0) (c .before .before .left2 .given .0 .0) (rw (c .before .before .left2 .given .1) at (c .before .before .before .before .before .before .execute .ensures)) in
-    (omega (arith, c .before .before .before .before .before .before .before .before .before .before .before .before .before .before .pre .0), asks)
+  -- The measure is the place number.
+  at-place : (c : lts.After-read claims given f.Post) → work c .reading .place ≡ t
+  at-place c = c .before .before .before .pre .0
 
-execute-on-right-requires : (t : ℕ) → execute-lts.Need-on-right-requires (
-  read-reads.Asked,
-  read-reads.Learnt,
-  on-action-reads.Asked,
-  on-action-reads.Learnt,
-  execute-below t,
-  execute.Post,
-  on-left-reads.Asked,
-  on-left-reads.Learnt,
-  on-right-reads.Asked,
-  on-right-reads.Learnt,
-  after-round-reads.Asked,
-  after-round-reads.Learnt,
-) (execute-at t) execute.Post
-execute-on-right-requires t c κs =
-    asks-to-turn (c .before .before .before .before .before .before .before .before .before .before .before .before .before .before .before .before .before .before .args .room .now) (c .before .before .before .before .before .before .before .before .before .before .before .before .before .before .before .before .before .before .args .used) (c .before .before .before .before .before .before .before .before .before .before .before .before .before .before .before .before .before .before .args .place) (c .before .before .before .before .before .before .before .before .before .before .before .before .before .before .before .before .before .before .args .k) (actionOf (c .before .before .before .before .before .before .before .before .before .before .before .before .before .before .before .before .before .before .args .action)) (c .before .before .before .before .before .before .before .before .before .before .before .before .before .before .before .before .before .before .pre .1 .0) (c .before .before .before .before .before .before .before .before .before .before .before .before .before .before .before .before .before .before .pre .1 .1) (c .before .before .before .before .before .before .before .before .before .before .before .before .before .before .before .before .before .before .pre .1 .2) (c .before .before .before .before .before .before .before .before .before .before .before .before .before .before .before .read .result) (c .before .before .before .before .before .before .before .before .before .before .before .before .before .before .before .read .ensures) (omega arith) (omega arith) (c .before .before .before .before .before .before .before .before .before .before .execute .last .0) (c .before .before .before .before .before .before .left2 .given .0 .0) (rw (c .before .before .before .before .before .before .left2 .given .1) at (c .before .before .before .before .before .before .before .before .before .before .execute .ensures)) (c .before .before .before .execute2 .last .0) (c .before .before .before .execute2 .result) (c .before .before .before .execute2 .ensures)
+  read-requires : lts.Need-read-requires claims given f.Post
+  read-requires c κs = c .before .before .pre .1 .1 .inside
 
-execute-execute-requires-3 : (t : ℕ) → execute-lts.Need-execute-requires-3 (
-  read-reads.Asked,
-  read-reads.Learnt,
-  on-action-reads.Asked,
-  on-action-reads.Learnt,
-  execute-below t,
-  execute.Post,
-  on-left-reads.Asked,
-  on-left-reads.Learnt,
-  on-right-reads.Asked,
-  on-right-reads.Learnt,
-  after-round-reads.Asked,
-  after-round-reads.Learnt,
-) (execute-at t) execute.Post
-execute-execute-requires-3 t c κs =
-    let (lower, asks) = asks-body (c .before .before .before .before .before .before .before .before .args .room .now) (c .before .before .before .before .before .before .before .before .args .used) (c .before .before .before .before .before .before .before .before .args .place) (c .before .before .before .before .before .before .before .before .args .k) (actionOf (c .before .before .before .before .before .before .before .before .args .action)) (c .before .before .before .before .before .before .before .before .pre .1 .0) (c .before .before .before .before .before .before .before .before .pre .1 .1) (c .before .before .before .before .before .before .before .before .pre .1 .2) (c .before .before .before .before .before .read .result) (c .before .before .before .before .before .read .ensures) (omega arith) (omega arith) in
-    (omega (arith, c .before .before .before .before .before .before .before .before .pre .0), asks)
+  on-action-requires : lts.Need-on-action-requires claims given f.Post
+  on-action-requires c κs = c .before .before .before .before .before .before .pre .1 .0
 
-execute-enum-known-round : (t : ℕ) → execute-lts.Need-enum-known-round (
-  read-reads.Asked,
-  read-reads.Learnt,
-  on-action-reads.Asked,
-  on-action-reads.Learnt,
-  execute-below t,
-  execute.Post,
-  on-left-reads.Asked,
-  on-left-reads.Learnt,
-  on-right-reads.Asked,
-  on-right-reads.Learnt,
-  after-round-reads.Asked,
-  after-round-reads.Learnt,
-) (execute-at t) execute.Post
-execute-enum-known-round t c =
-    search needs
+  execute-requires : lts.Need-execute-requires claims given f.Post
+  execute-requires c κs =
+      let p = c .before in
+      let r = p .before .before .before in
+      let (low, high) = is-pair p in
+      let (lower, asks) = asks-left (work r) (occurrence r) (action r) low high in
+      (omega (arith, at-place r), asks)
 
-execute-enum-told : (t : ℕ) → execute-lts.Need-enum-told (
-  read-reads.Asked,
-  read-reads.Learnt,
-  on-action-reads.Asked,
-  on-action-reads.Learnt,
-  execute-below t,
-  execute.Post,
-  on-left-reads.Asked,
-  on-left-reads.Learnt,
-  on-right-reads.Asked,
-  on-right-reads.Learnt,
-  after-round-reads.Asked,
-  after-round-reads.Learnt,
-) (execute-at t) execute.Post
-execute-enum-told t c =
-    search needs
+  enum-known-left : lts.Need-enum-known-left claims given f.Post
+  enum-known-left c = search needs
 
-execute-same-length : (t : ℕ) → execute-lts.Need-same-length (
-  read-reads.Asked,
-  read-reads.Learnt,
-  on-action-reads.Asked,
-  on-action-reads.Learnt,
-  execute-below t,
-  execute.Post,
-  on-left-reads.Asked,
-  on-left-reads.Learnt,
-  on-right-reads.Asked,
-  on-right-reads.Learnt,
-  after-round-reads.Asked,
-  after-round-reads.Learnt,
-) (execute-at t) execute.Post
-execute-same-length t c =
-    c .before .before .before .before .execute3 .kept .0
+  on-left-requires : lts.Need-on-left-requires claims given f.Post
+  on-left-requires c κs =
+      let l = c .before .before .before .before .before .before in
+      let p = l .before .before in
+      let r = p .before .before .before in
+      let (low, high) = is-pair p in
+      let x = c .before .before .left .given in
+      let made = rw (x .1) at (l .execute .ensures) in
+      asks-to-carry (work r) (occurrence r) (action r) low high (l .execute .last .0) (x .0 .0) made
 
-execute-returns : (t : ℕ) → execute-lts.Need-returns (
-  read-reads.Asked,
-  read-reads.Learnt,
-  on-action-reads.Asked,
-  on-action-reads.Learnt,
-  execute-below t,
-  execute.Post,
-  on-left-reads.Asked,
-  on-left-reads.Learnt,
-  on-right-reads.Asked,
-  on-right-reads.Learnt,
-  after-round-reads.Asked,
-  after-round-reads.Learnt,
-) (execute-at t) execute.Post
-execute-returns t c =
-    rw (c .enum-told .given .1) (no-round (c .before .before .before .before .before .before .before .before .before .before .before .before .before .args .room .now) (c .before .before .before .before .before .before .before .before .before .before .before .before .before .args .used) (c .before .before .before .before .before .before .before .before .before .before .before .before .before .args .place) (c .before .before .before .before .before .before .before .before .before .before .before .before .before .args .k) (actionOf (c .before .before .before .before .before .before .before .before .before .before .before .before .before .args .action)) (c .before .before .before .before .before .before .before .before .before .before .before .before .before .pre .1 .0) (c .before .before .before .before .before .before .before .before .before .before .before .before .before .pre .1 .1) (c .before .before .before .before .before .before .before .before .before .before .before .before .before .pre .1 .2) (c .before .before .before .before .before .before .before .before .before .before .read .result) (c .before .before .before .before .before .before .before .before .before .before .read .ensures) (omega arith) (omega arith) (c .before .before .before .before .execute3 .last .0) (c .enum-told .given .0 .0) (rw (c .enum-told .given .1) at (c .before .before .before .before .execute3 .ensures)))
+  enum-known-left-2 : lts.Need-enum-known-left-2 claims given f.Post
+  enum-known-left-2 c = search needs
 
-execute-after-round-requires : (t : ℕ) → execute-lts.Need-after-round-requires (
-  read-reads.Asked,
-  read-reads.Learnt,
-  on-action-reads.Asked,
-  on-action-reads.Learnt,
-  execute-below t,
-  execute.Post,
-  on-left-reads.Asked,
-  on-left-reads.Learnt,
-  on-right-reads.Asked,
-  on-right-reads.Learnt,
-  after-round-reads.Asked,
-  after-round-reads.Learnt,
-) (execute-at t) execute.Post
-execute-after-round-requires t c κs =
-    asks-to-go-round (c .before .before .before .before .before .before .before .before .before .before .before .before .before .before .before .args .room .now) (c .before .before .before .before .before .before .before .before .before .before .before .before .before .before .before .args .used) (c .before .before .before .before .before .before .before .before .before .before .before .before .before .before .before .args .place) (c .before .before .before .before .before .before .before .before .before .before .before .before .before .before .before .args .k) (actionOf (c .before .before .before .before .before .before .before .before .before .before .before .before .before .before .before .args .action)) (c .before .before .before .before .before .before .before .before .before .before .before .before .before .before .before .pre .1 .0) (c .before .before .before .before .before .before .before .before .before .before .before .before .before .before .before .pre .1 .1) (c .before .before .before .before .before .before .before .before .before .before .before .before .before .before .before .pre .1 .2) (c .before .before .before .before .before .before .before .before .before .before .before .before .read .result) (c .before .before .before .before .before .before .before .before .before .before .before .before .read .ensures) (omega arith) (omega arith) (c .before .before .before .before .before .before .execute3 .last .0) (c .before .before .round .given .0 .0) (rw (c .before .before .round .given .1) at (c .before .before .before .before .before .before .execute3 .ensures))
+  execute-requires-2 : lts.Need-execute-requires-2 claims given f.Post
+  execute-requires-2 c κs =
+      let l = c .before .before .before .before .before .before in
+      let p = l .before .before in
+      let r = p .before .before .before in
+      let (low, high) = is-pair p in
+      let x = c .before .before .left2 .given in
+      let none = rw (x .1) at (l .execute .ensures) in
+      let (lower, asks) = asks-right (work r) (occurrence r) (action r) low high (l .execute .last .0) (x .0 .0) none in
+      (omega (arith, at-place r), asks)
 
-execute-same-length-2 : (t : ℕ) → execute-lts.Need-same-length-2 (
-  read-reads.Asked,
-  read-reads.Learnt,
-  on-action-reads.Asked,
-  on-action-reads.Learnt,
-  execute-below t,
-  execute.Post,
-  on-left-reads.Asked,
-  on-left-reads.Learnt,
-  on-right-reads.Asked,
-  on-right-reads.Learnt,
-  after-round-reads.Asked,
-  after-round-reads.Learnt,
-) (execute-at t) execute.Post
-execute-same-length-2 t c =
-    refl
+  on-right-requires : lts.Need-on-right-requires claims given f.Post
+  on-right-requires c κs =
+      let right = c .before .before .before in
+      let l = right .before .before .before .before .before .before .before in
+      let p = l .before .before in
+      let r = p .before .before .before in
+      let (low, high) = is-pair p in
+      let x = right .before .before .before .left2 .given in
+      let none = rw (x .1) at (l .execute .ensures) in
+      asks-to-turn (work r) (occurrence r) (action r) low high (l .execute .last .0) (x .0 .0) none
+      (right .execute2 .last .0) (right .execute2 .result) (right .execute2 .ensures)
 
-execute-returns-2 : (t : ℕ) → execute-lts.Need-returns-2 (
-  read-reads.Asked,
-  read-reads.Learnt,
-  on-action-reads.Asked,
-  on-action-reads.Learnt,
-  execute-below t,
-  execute.Post,
-  on-left-reads.Asked,
-  on-left-reads.Learnt,
-  on-right-reads.Asked,
-  on-right-reads.Learnt,
-  after-round-reads.Asked,
-  after-round-reads.Learnt,
-) (execute-at t) execute.Post
-execute-returns-2 t c =
-    at-an-empty (c .before .before .before .before .args .room .now) (c .before .before .before .before .args .used) (c .before .before .before .before .args .place) (c .before .before .before .before .args .k) (actionOf (c .before .before .before .before .args .action)) (c .before .before .before .before .pre .1 .0) (c .before .before .before .before .pre .1 .1) (c .before .before .before .before .pre .1 .2) (c .before .read .result) (c .before .read .ensures) (c .match .keys1)
+  execute-requires-3 : lts.Need-execute-requires-3 claims given f.Post
+  execute-requires-3 c κs =
+      let p = c .before in
+      let r = p .before .before .before .before in
+      let (low, high) = is-loop p in
+      let (lower, asks) = asks-body (work r) (occurrence r) (action r) low high in
+      (omega (arith, at-place r), asks)
 
-execute-same-length-3 : (t : ℕ) → execute-lts.Need-same-length-3 (
-  read-reads.Asked,
-  read-reads.Learnt,
-  on-action-reads.Asked,
-  on-action-reads.Learnt,
-  execute-below t,
-  execute.Post,
-  on-left-reads.Asked,
-  on-left-reads.Learnt,
-  on-right-reads.Asked,
-  on-right-reads.Learnt,
-  after-round-reads.Asked,
-  after-round-reads.Learnt,
-) (execute-at t) execute.Post
-execute-same-length-3 t c =
-    c .before .before .on-action .kept .0
+  enum-known-round : lts.Need-enum-known-round claims given f.Post
+  enum-known-round c = search needs
 
-execute-returns-3 : (t : ℕ) → execute-lts.Need-returns-3 (
-  read-reads.Asked,
-  read-reads.Learnt,
-  on-action-reads.Asked,
-  on-action-reads.Learnt,
-  execute-below t,
-  execute.Post,
-  on-left-reads.Asked,
-  on-left-reads.Learnt,
-  on-right-reads.Asked,
-  on-right-reads.Learnt,
-  after-round-reads.Asked,
-  after-round-reads.Learnt,
-) (execute-at t) execute.Post
-execute-returns-3 t c =
-    at-an-action (c .before .before .before .before .before .before .before .before .before .args .room .now) (c .before .before .before .before .before .before .before .before .before .args .used) (c .before .before .before .before .before .before .before .before .before .args .place) (c .before .before .before .before .before .before .before .before .before .args .k) (actionOf (c .before .before .before .before .before .before .before .before .before .args .action)) (c .before .before .before .before .before .before .before .before .before .pre .1 .0) (c .before .before .before .before .before .before .before .before .before .pre .1 .1) (c .before .before .before .before .before .before .before .before .before .pre .1 .2) (c .before .before .before .before .before .before .read .result) (c .before .before .before .before .before .before .read .ensures) (c .before .before .on-action .last .0) (c .before .before .on-action .result) (omega (arith, c .before .before .before .before .before .match .rest .1)) (omega arith) (c .before .before .on-action .ensures)
+  enum-told : lts.Need-enum-told claims given f.Post
+  enum-told c = search needs
 
-execute-same-length-4 : (t : ℕ) → execute-lts.Need-same-length-4 (
-  read-reads.Asked,
-  read-reads.Learnt,
-  on-action-reads.Asked,
-  on-action-reads.Learnt,
-  execute-below t,
-  execute.Post,
-  on-left-reads.Asked,
-  on-left-reads.Learnt,
-  on-right-reads.Asked,
-  on-right-reads.Learnt,
-  after-round-reads.Asked,
-  after-round-reads.Learnt,
-) (execute-at t) execute.Post
-execute-same-length-4 t c =
-    c .before .before .on-left .kept .0 ∙ c .before .before .before .before .before .before .before .before .before .execute .kept .0
+  same-length : lts.Need-same-length claims given f.Post
+  same-length c = c .before .before .before .before .execute3 .kept .0
 
-execute-returns-4 : (t : ℕ) → execute-lts.Need-returns-4 (
-  read-reads.Asked,
-  read-reads.Learnt,
-  on-action-reads.Asked,
-  on-action-reads.Learnt,
-  execute-below t,
-  execute.Post,
-  on-left-reads.Asked,
-  on-left-reads.Learnt,
-  on-right-reads.Asked,
-  on-right-reads.Learnt,
-  after-round-reads.Asked,
-  after-round-reads.Learnt,
-) (execute-at t) execute.Post
-execute-returns-4 t c =
-    on-its-left (c .before .before .before .before .before .before .before .before .before .before .before .before .before .before .before .before .before .args .room .now) (c .before .before .before .before .before .before .before .before .before .before .before .before .before .before .before .before .before .args .used) (c .before .before .before .before .before .before .before .before .before .before .before .before .before .before .before .before .before .args .place) (c .before .before .before .before .before .before .before .before .before .before .before .before .before .before .before .before .before .args .k) (actionOf (c .before .before .before .before .before .before .before .before .before .before .before .before .before .before .before .before .before .args .action)) (c .before .before .before .before .before .before .before .before .before .before .before .before .before .before .before .before .before .pre .1 .0) (c .before .before .before .before .before .before .before .before .before .before .before .before .before .before .before .before .before .pre .1 .1) (c .before .before .before .before .before .before .before .before .before .before .before .before .before .before .before .before .before .pre .1 .2) (c .before .before .before .before .before .before .before .before .before .before .before .before .before .before .read .result) (c .before .before .before .before .before .before .before .before .before .before .before .before .before .before .read .ensures) (omega arith) (omega arith) (c .before .before .before .before .before .before .before .before .before .execute .last .0) (c .before .before .before .before .before .left .given .0 .0) (rw (c .before .before .before .before .before .left .given .1) at (c .before .before .before .before .before .before .before .before .before .execute .ensures)) (c .before .before .on-left .last .0) (c .before .before .on-left .result) (c .before .before .on-left .ensures)
+  returns : lts.Need-returns claims given f.Post
+  returns c =
+      let b = c .before .before .before .before in
+      let p = b .before .before in
+      let r = p .before .before .before .before in
+      let (low, high) = is-loop p in
+      let x = c .enum-told .given in
+      let none = rw (x .1) at (b .execute3 .ensures) in
+      rw (x .1) (no-round (work r) (occurrence r) (action r) low high (b .execute3 .last .0) (x .0 .0) none)
 
-execute-same-length-5 : (t : ℕ) → execute-lts.Need-same-length-5 (
-  read-reads.Asked,
-  read-reads.Learnt,
-  on-action-reads.Asked,
-  on-action-reads.Learnt,
-  execute-below t,
-  execute.Post,
-  on-left-reads.Asked,
-  on-left-reads.Learnt,
-  on-right-reads.Asked,
-  on-right-reads.Learnt,
-  after-round-reads.Asked,
-  after-round-reads.Learnt,
-) (execute-at t) execute.Post
-execute-same-length-5 t c =
-    c .before .before .on-right .kept .0 ∙ c .before .before .before .before .before .before .execute2 .kept .0 ∙ c .before .before .before .before .before .before .before .before .before .before .before .before .before .execute .kept .0
+  after-round-requires : lts.Need-after-round-requires claims given f.Post
+  after-round-requires c κs =
+      let b = c .before .before .before .before .before .before in
+      let p = b .before .before in
+      let r = p .before .before .before .before in
+      let (low, high) = is-loop p in
+      let x = c .before .before .round .given in
+      let made = rw (x .1) at (b .execute3 .ensures) in
+      asks-to-go-round (work r) (occurrence r) (action r) low high (b .execute3 .last .0) (x .0 .0) made
 
-execute-returns-5 : (t : ℕ) → execute-lts.Need-returns-5 (
-  read-reads.Asked,
-  read-reads.Learnt,
-  on-action-reads.Asked,
-  on-action-reads.Learnt,
-  execute-below t,
-  execute.Post,
-  on-left-reads.Asked,
-  on-left-reads.Learnt,
-  on-right-reads.Asked,
-  on-right-reads.Learnt,
-  after-round-reads.Asked,
-  after-round-reads.Learnt,
-) (execute-at t) execute.Post
-execute-returns-5 t c =
-    on-its-right (c .before .before .before .before .before .before .before .before .before .before .before .before .before .before .before .before .before .before .before .before .before .args .room .now) (c .before .before .before .before .before .before .before .before .before .before .before .before .before .before .before .before .before .before .before .before .before .args .used) (c .before .before .before .before .before .before .before .before .before .before .before .before .before .before .before .before .before .before .before .before .before .args .place) (c .before .before .before .before .before .before .before .before .before .before .before .before .before .before .before .before .before .before .before .before .before .args .k) (actionOf (c .before .before .before .before .before .before .before .before .before .before .before .before .before .before .before .before .before .before .before .before .before .args .action)) (c .before .before .before .before .before .before .before .before .before .before .before .before .before .before .before .before .before .before .before .before .before .pre .1 .0) (c .before .before .before .before .before .before .before .before .before .before .before .before .before .before .before .before .before .before .before .before .before .pre .1 .1) (c .before .before .before .before .before .before .before .before .before .before .before .before .before .before .before .before .before .before .before .before .before .pre .1 .2) (c .before .before .before .before .before .before .before .before .before .before .before .before .before .before .before .before .before .before .read .result) (c .before .before .before .before .before .before .before .before .before .before .before .before .before .before .before .before .before .before .read .ensures) (omega arith) (omega arith) (c .before .before .before .before .before .before .before .before .before .before .before .before .before .execute .last .0) (c .before .before .before .before .before .before .before .before .before .left2 .given .0 .0) (rw (c .before .before .before .before .before .before .before .before .before .left2 .given .1) at (c .before .before .before .before .before .before .before .before .before .before .before .before .before .execute .ensures)) (c .before .before .before .before .before .before .execute2 .last .0) (c .before .before .before .before .before .before .execute2 .result) (c .before .before .before .before .before .before .execute2 .ensures) (c .before .before .on-right .last .0) (c .before .before .on-right .result) (c .before .before .on-right .ensures)
+  same-length-2 : lts.Need-same-length-2 claims given f.Post
+  same-length-2 c = refl
 
-execute-same-length-6 : (t : ℕ) → execute-lts.Need-same-length-6 (
-  read-reads.Asked,
-  read-reads.Learnt,
-  on-action-reads.Asked,
-  on-action-reads.Learnt,
-  execute-below t,
-  execute.Post,
-  on-left-reads.Asked,
-  on-left-reads.Learnt,
-  on-right-reads.Asked,
-  on-right-reads.Learnt,
-  after-round-reads.Asked,
-  after-round-reads.Learnt,
-) (execute-at t) execute.Post
-execute-same-length-6 t c =
-    c .before .before .after-round .kept .0 ∙ c .before .before .before .before .before .before .before .before .before .execute3 .kept .0
+  returns-2 : lts.Need-returns-2 claims given f.Post
+  returns-2 c =
+      let r = c .before in
+      at-an-empty (work r) (occurrence r) (action r) (c .match .keys1)
 
-execute-returns-6 : (t : ℕ) → execute-lts.Need-returns-6 (
-  read-reads.Asked,
-  read-reads.Learnt,
-  on-action-reads.Asked,
-  on-action-reads.Learnt,
-  execute-below t,
-  execute.Post,
-  on-left-reads.Asked,
-  on-left-reads.Learnt,
-  on-right-reads.Asked,
-  on-right-reads.Learnt,
-  after-round-reads.Asked,
-  after-round-reads.Learnt,
-) (execute-at t) execute.Post
-execute-returns-6 t c =
-    one-round (c .before .before .before .before .before .before .before .before .before .before .before .before .before .before .before .before .before .before .args .room .now) (c .before .before .before .before .before .before .before .before .before .before .before .before .before .before .before .before .before .before .args .used) (c .before .before .before .before .before .before .before .before .before .before .before .before .before .before .before .before .before .before .args .place) (c .before .before .before .before .before .before .before .before .before .before .before .before .before .before .before .before .before .before .args .k) (actionOf (c .before .before .before .before .before .before .before .before .before .before .before .before .before .before .before .before .before .before .args .action)) (c .before .before .before .before .before .before .before .before .before .before .before .before .before .before .before .before .before .before .pre .1 .0) (c .before .before .before .before .before .before .before .before .before .before .before .before .before .before .before .before .before .before .pre .1 .1) (c .before .before .before .before .before .before .before .before .before .before .before .before .before .before .before .before .before .before .pre .1 .2) (c .before .before .before .before .before .before .before .before .before .before .before .before .before .before .before .read .result) (c .before .before .before .before .before .before .before .before .before .before .before .before .before .before .before .read .ensures) (omega arith) (omega arith) (c .before .before .before .before .before .before .before .before .before .execute3 .last .0) (c .before .before .before .before .before .round .given .0 .0) (rw (c .before .before .before .before .before .round .given .1) at (c .before .before .before .before .before .before .before .before .before .execute3 .ensures)) (c .before .before .after-round .last .0) (c .before .before .after-round .result) (c .before .before .after-round .ensures)
+  same-length-3 : lts.Need-same-length-3 claims given f.Post
+  same-length-3 c = c .before .before .on-action .kept .0
 
-execute-same-length-7 : (t : ℕ) → execute-lts.Need-same-length-7 (
-  read-reads.Asked,
-  read-reads.Learnt,
-  on-action-reads.Asked,
-  on-action-reads.Learnt,
-  execute-below t,
-  execute.Post,
-  on-left-reads.Asked,
-  on-left-reads.Learnt,
-  on-right-reads.Asked,
-  on-right-reads.Learnt,
-  after-round-reads.Asked,
-  after-round-reads.Learnt,
-) (execute-at t) execute.Post
-execute-same-length-7 t c =
-    refl
+  returns-3 : lts.Need-returns-3 claims given f.Post
+  returns-3 c =
+      let r = c .before .before .before .before .before .before in
+      let some = c .before .before .before .before .before .match .rest .1 in
+      let done = c .before .before .on-action in
+      at-an-action (work r) (occurrence r) (action r) (done .last .0) (done .result) (omega arith) (omega arith)
+      (done .ensures)
 
-execute-returns-7 : (t : ℕ) → execute-lts.Need-returns-7 (
-  read-reads.Asked,
-  read-reads.Learnt,
-  on-action-reads.Asked,
-  on-action-reads.Learnt,
-  execute-below t,
-  execute.Post,
-  on-left-reads.Asked,
-  on-left-reads.Learnt,
-  on-right-reads.Asked,
-  on-right-reads.Learnt,
-  after-round-reads.Asked,
-  after-round-reads.Learnt,
-) (execute-at t) execute.Post
-execute-returns-7 t c =
-    at-the-unknown (c .before .before .before .before .before .before .before .args .room .now) (c .before .before .before .before .before .before .before .args .used) (c .before .before .before .before .before .before .before .args .place) (c .before .before .before .before .before .before .before .args .k) (actionOf (c .before .before .before .before .before .before .before .args .action)) (c .before .before .before .before .before .before .before .pre .1 .0) (c .before .before .before .before .before .before .before .pre .1 .1) (c .before .before .before .before .before .before .before .pre .1 .2) (c .before .before .before .before .read .result) (c .before .before .before .before .read .ensures) (omega arith)
+  same-length-4 : lts.Need-same-length-4 claims given f.Post
+  same-length-4 c =
+      let l = c .before .before .before .before .before in
+      c .before .before .on-left .kept .0 ∙ l .before .before .before .before .execute .kept .0
+
+  returns-4 : lts.Need-returns-4 claims given f.Post
+  returns-4 c =
+      let m = c .before .before .before .before .before in
+      let l = m .before .before .before .before in
+      let p = l .before .before in
+      let r = p .before .before .before in
+      let (low, high) = is-pair p in
+      let x = m .left .given in
+      let made = rw (x .1) at (l .execute .ensures) in
+      let done = c .before .before .on-left in
+      on-its-left (work r) (occurrence r) (action r) low high (l .execute .last .0) (x .0 .0) made
+      (done .last .0) (done .result) (done .ensures)
+
+  same-length-5 : lts.Need-same-length-5 claims given f.Post
+  same-length-5 c =
+      let right = c .before .before .before .before .before .before in
+      c .before .before .on-right .kept .0 ∙ right .execute2 .kept .0 ∙ right .before .before .before .before .before
+      .before .before .execute .kept .0
+
+  returns-5 : lts.Need-returns-5 claims given f.Post
+  returns-5 c =
+      let right = c .before .before .before .before .before .before in
+      let l = right .before .before .before .before .before .before .before in
+      let p = l .before .before in
+      let r = p .before .before .before in
+      let (low, high) = is-pair p in
+      let x = right .before .before .before .left2 .given in
+      let none = rw (x .1) at (l .execute .ensures) in
+      let done = c .before .before .on-right in
+      on-its-right (work r) (occurrence r) (action r) low high (l .execute .last .0) (x .0 .0) none
+      (right .execute2 .last .0) (right .execute2 .result) (right .execute2 .ensures)
+      (done .last .0) (done .result) (done .ensures)
+
+  same-length-6 : lts.Need-same-length-6 claims given f.Post
+  same-length-6 c =
+      let b = c .before .before .before .before .before .before .before .before .before in
+      c .before .before .after-round .kept .0 ∙ b .execute3 .kept .0
+
+  returns-6 : lts.Need-returns-6 claims given f.Post
+  returns-6 c =
+      let b = c .before .before .before .before .before .before .before .before .before in
+      let p = b .before .before in
+      let r = p .before .before .before .before in
+      let (low, high) = is-loop p in
+      let x = c .before .before .before .before .before .round .given in
+      let made = rw (x .1) at (b .execute3 .ensures) in
+      let done = c .before .before .after-round in
+      one-round (work r) (occurrence r) (action r) low high (b .execute3 .last .0) (x .0 .0) made
+      (done .last .0) (done .result) (done .ensures)
+
+  same-length-7 : lts.Need-same-length-7 claims given f.Post
+  same-length-7 c = refl
+
+  returns-7 : lts.Need-returns-7 claims given f.Post
+  returns-7 c =
+      let r = c .before .before .before .before in
+      at-the-unknown (work r) (occurrence r) (action r) (omega arith)
 
 pub +execute-spec : {M : Type 1} → statement M
-+execute-spec = close μ-execute λ t. execute-lts.spec (
-  read-reads.Asked,
-  read-reads.Learnt,
-  on-action-reads.Asked,
-  on-action-reads.Learnt,
-  execute-below t,
-  execute.Post,
-  on-left-reads.Asked,
-  on-left-reads.Learnt,
-  on-right-reads.Asked,
-  on-right-reads.Learnt,
-  after-round-reads.Asked,
-  after-round-reads.Learnt,
-)
-    (execute-at t)
-    execute.Post
-    (execute-read-requires t)
-    (execute-on-action-requires t)
-    (execute-execute-requires t)
-    (execute-enum-known-left t)
-    (execute-on-left-requires t)
-    (execute-enum-known-left-2 t)
-    (execute-execute-requires-2 t)
-    (execute-on-right-requires t)
-    (execute-execute-requires-3 t)
-    (execute-enum-known-round t)
-    (execute-enum-told t)
-    (execute-same-length t)
-    (execute-returns t)
-    (execute-after-round-requires t)
-    (execute-same-length-2 t)
-    (execute-returns-2 t)
-    (execute-same-length-3 t)
-    (execute-returns-3 t)
-    (execute-same-length-4 t)
-    (execute-returns-4 t)
-    (execute-same-length-5 t)
-    (execute-returns-5 t)
-    (execute-same-length-6 t)
-    (execute-returns-6 t)
-    (execute-same-length-7 t)
-    (execute-returns-7 t)
++execute-spec =
+    close μ λ t.
+    lts.spec (claims t) (given t) f.Post
+    (read-requires t) (on-action-requires t) (execute-requires t) (enum-known-left t) (on-left-requires t)
+    (enum-known-left-2 t) (execute-requires-2 t) (on-right-requires t) (execute-requires-3 t)
+    (enum-known-round t) (enum-told t) (same-length t) (returns t) (after-round-requires t) (same-length-2 t)
+    (returns-2 t) (same-length-3 t) (returns-3 t) (same-length-4 t) (returns-4 t) (same-length-5 t) (returns-5 t)
+    (same-length-6 t) (returns-6 t) (same-length-7 t) (returns-7 t)

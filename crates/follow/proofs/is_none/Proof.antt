@@ -1,25 +1,19 @@
-use mathlib.Core.Path.{refl, sym}
+-- `is_none` meets its contract, by the case of each return. Assumes nothing.
 use borrow.Author.Needs.{needs}
 use Rattle.follow.proofs.is_none.Statement.{statement}
 use Rattle.follow.proofs.is_none.Tie as tie
-use Rattle.follow.proofs.is_none.Reads as reads
-use Rattle.follow.proofs.is_none.Lts as lts
 
 enum-known-answer : tie.Need-enum-known-answer
-enum-known-answer c =
-    search needs
+enum-known-answer c = search needs
 
 enum-told : tie.Need-enum-told
-enum-told c =
-    search needs
+enum-told c = search needs
 
 returns : tie.Need-returns
-returns c =
-    rw (c .enum-told .given .1)
+returns c = rw (c .enum-told .given .1)
 
 returns-2 : tie.Need-returns-2
-returns-2 c =
-    rw (c .before .answer .given .1)
+returns-2 c = rw (c .before .answer .given .1)
 
 pub is-none-spec : {M : Type 1} → statement M
 is-none-spec = tie.close (tie.spec enum-known-answer enum-told returns returns-2)

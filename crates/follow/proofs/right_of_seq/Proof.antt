@@ -1,43 +1,41 @@
+-- `right_of_seq` meets its contract: with a follow-up on the right the left is pruned, and with none it is asked
+-- whether it evades the lifeline. Assumes nothing.
 use mathlib.Core.Path.{refl, sym, _∙_}
+use borrow.Author.Needs.{needs}
 use Rattle.node.proofs.Ranges.{seq-is-four}
 use Rattle.room.specs.Room.{chartIn}
 use Rattle.follow.proofs.Pairing.{seq-none-yet, seq-blocks, seq-blocks-after-all, seq-passed}
-use borrow.Author.Needs.{needs}
 use Rattle.follow.proofs.right_of_seq.Statement.{statement}
 use Rattle.follow.proofs.right_of_seq.Tie as tie
-use Rattle.follow.proofs.right_of_seq.Reads as reads
-use Rattle.follow.proofs.right_of_seq.Lts as lts
-use Rattle.places.proofs.add.Reads as add-reads
-use Rattle.pruning.proofs.evades.Reads as evades-reads
-use Rattle.pruning.proofs.prune.Reads as prune-reads
 
 enum-known-right : tie.Need-enum-known-right
-enum-known-right c =
-    search needs
+enum-known-right c = search needs
 
 enum-told : tie.Need-enum-told
-enum-told c =
-    search needs
+enum-told c = search needs
 
 evades-requires : tie.Need-evades-requires
-evades-requires c κs =
-    c .before .before .before .before .pre .0
+evades-requires c κs = c .before .before .before .before .pre .0
 
 same-length : tie.Need-same-length
-same-length c =
-    refl
+same-length c = refl
 
 returns : tie.Need-returns
 returns c =
-    rw (c .before .before .before .enum-told .given .1) (seq-none-yet (c .before .before .before .before .before .before .args .room .now) (c .before .before .before .before .before .before .args .k) (c .before .before .before .before .before .before .args .lifeline) (c .before .before .before .enum-told .given .0 .0) (chartIn (c .before .before .before .before .before .before .args .room .now) (c .before .before .before .before .before .before .args .left)) (sym (c .before .evades .ensures) ∙ c .if1 .taken))
+    let s = c .before .before .before .before .before .before .args in
+    let none = c .before .before .before .enum-told .given in
+    rw (none .1)
+    (seq-none-yet (s .room .now) (s .k) (s .lifeline) (none .0 .0) (chartIn (s .room .now) (s .left))
+    (sym (c .before .evades .ensures) ∙ c .if1 .taken))
 
 same-length-2 : tie.Need-same-length-2
-same-length-2 c =
-    refl
+same-length-2 c = refl
 
 returns-2 : tie.Need-returns-2
 returns-2 c =
-    seq-blocks (c .before .before .before .before .before .before .args .room .now) (c .before .before .before .before .before .before .args .k) (c .before .before .before .before .before .before .args .lifeline) (c .before .before .before .before .before .before .args .right) (chartIn (c .before .before .before .before .before .before .args .room .now) (c .before .before .before .before .before .before .args .left)) (sym (c .before .evades .ensures) ∙ c .if1 .left)
+    let s = c .before .before .before .before .before .before .args in
+    seq-blocks (s .room .now) (s .k) (s .lifeline) (s .right) (chartIn (s .room .now) (s .left))
+    (sym (c .before .evades .ensures) ∙ c .if1 .left)
 
 prune-requires : tie.Need-prune-requires
 prune-requires c κs =
@@ -45,35 +43,46 @@ prune-requires c κs =
     (beside .0, c .before .before .before .before .before .pre .0, beside .1)
 
 enum-known-pruned : tie.Need-enum-known-pruned
-enum-known-pruned c =
-    search needs
+enum-known-pruned c = search needs
 
 enum-told-2 : tie.Need-enum-told-2
-enum-told-2 c =
-    search needs
+enum-told-2 c = search needs
 
 same-length-3 : tie.Need-same-length-3
-same-length-3 c =
-    c .before .before .before .before .prune .kept .0
+same-length-3 c = c .before .before .before .before .prune .kept .0
 
 returns-3 : tie.Need-returns-3
 returns-3 c =
-    let nothing = rw (c .enum-told2 .given .1) at (c .before .before .before .before .prune .ensures) in
-    rw (c .before .before .before .before .before .before .before .right .given .1) (seq-blocks-after-all (c .before .before .before .before .before .before .before .before .before .before .args .room .now) (c .before .before .before .before .before .before .before .before .before .before .args .k) (c .before .before .before .before .before .before .before .before .before .before .args .lifeline) (c .before .before .before .before .before .before .before .right .given .0 .0) (chartIn (c .before .before .before .before .before .before .before .before .before .before .args .room .now) (c .before .before .before .before .before .before .before .before .before .before .args .left)) (c .before .before .before .before .prune .last .0) (nothing .0) (nothing .1))
+    let l = c .before .before .before .before in
+    let s = l .before .before .before .before .before .before .args in
+    let x = l .before .before .before .right .given in
+    let nothing = rw (c .enum-told2 .given .1) at (l .prune .ensures) in
+    rw (x .1)
+    (seq-blocks-after-all (s .room .now) (s .k) (s .lifeline) (x .0 .0) (chartIn (s .room .now) (s .left))
+    (l .prune .last .0) (nothing .0) (nothing .1))
 
 add-requires : tie.Need-add-requires
 add-requires c κs =
-    let part = rw (c .before .before .pruned .given .1) at (c .before .before .before .before .before .before .prune .ensures) in
+    let front = c .before .before in
+    let part = rw (front .pruned .given .1) at (front .before .before .before .before .prune .ensures) in
     part .1 .held .table
 
 same-length-4 : tie.Need-same-length-4
 same-length-4 c =
-    c .before .before .add .kept .0 ∙ c .before .before .before .before .before .before .before .before .before .prune .kept .0
+    c .before .before .add .kept .0 ∙ c .before .before .before .before .before .before .before .before .before
+    .prune .kept .0
 
 returns-4 : tie.Need-returns-4
 returns-4 c =
-    let part = rw (c .before .before .before .before .before .pruned .given .1) at (c .before .before .before .before .before .before .before .before .before .prune .ensures) in
-    rw (c .before .before .before .before .before .before .before .before .before .before .before .before .right .given .1, c .before .before .add .ensures .0, c .before .before .add .ensures .1) (seq-passed (c .before .before .before .before .before .before .before .before .before .before .before .before .before .before .before .args .room .now) (c .before .before .before .before .before .before .before .before .before .before .before .before .before .before .before .args .k) (c .before .before .before .before .before .before .before .before .before .before .before .before .before .before .before .args .lifeline) (c .before .before .before .before .before .before .before .before .before .before .before .before .right .given .0 .0) (chartIn (c .before .before .before .before .before .before .before .before .before .before .before .before .before .before .before .args .room .now) (c .before .before .before .before .before .before .before .before .before .before .before .before .before .before .before .args .left)) (c .before .before .before .before .before .before .before .before .before .prune .last .0) 4 (c .before .before .before .before .before .pruned .given .0 .0) seq-is-four (part .0) (part .1))
+    let l = c .before .before .before .before .before .before .before .before .before in
+    let s = l .before .before .before .before .before .before .args in
+    let x = l .before .before .before .right .given in
+    let front = c .before .before .before .before .before .pruned .given in
+    let part = rw (front .1) at (l .prune .ensures) in
+    let done = c .before .before .add .ensures in
+    rw (x .1, done .0, done .1)
+    (seq-passed (s .room .now) (s .k) (s .lifeline) (x .0 .0) (chartIn (s .room .now) (s .left)) (l .prune .last .0) 4
+    (front .0 .0) seq-is-four (part .0) (part .1))
 
 pub right-of-seq-spec : {M : Type 1} → statement M
 right-of-seq-spec =

@@ -1,168 +1,130 @@
-use Rattle.chart.specs.Executing as chart
-use mathlib.Core.Path.{_≡_, sym, ap, _∙_}
+-- `evades` meets its contract: at each kind the answer is the chart's, from the answers at its parts.
+-- Assumes nothing.
+use mathlib.Core.Path.{_≡_, sym, ap}
 use native.Mathlib.Omega.{arith}
-use Rattle.room.proofs.Apart.{left-lower, right-lower, action-here}
+use Rattle.chart.specs.Executing as chart
+use Rattle.room.proofs.Apart.{Reading, left-lower, right-lower, action-here}
 use Rattle.room.proofs.Descending.{evades-descends, yes-at-empty, yes-at-a-loop, yes-at-the-unknown, alt-by-its-left, alt-by-its-right, pair-by-its-left, pair-by-its-right}
 use Prim.Native.Nat.{ℕ, _<_}
 use borrow.Fn.Kinds.{In}
 use borrow.Fn.PlainCycle.{Measures, is, falls, and}
-use Rattle.pruning.proofs.evades.Reads as evades
-use Rattle.pruning.proofs.evades.Kinds as evades-kinds
-use Rattle.pruning.proofs.+evades.Lts-evades as evades-lts
 use Rattle.places.proofs.read.Reads as read-reads
+use Rattle.pruning.proofs.evades.Reads as f
+use Rattle.pruning.proofs.evades.Kinds as kinds
+use Rattle.pruning.proofs.+evades.Lts-evades as lts
 use Rattle.pruning.proofs.+evades.{statement}
 use Rattle.pruning.proofs.+evades.Tie.{close}
 
-abbrev μ-evades : Measures 1 evades-kinds.ps ℕ
-μ-evades κs a = a .1 .0
+-- The place number falls at each call.
+abbrev μ : Measures 1 kinds.ps ℕ
+μ κs a = a .1 .0
 
-abbrev evades-at : ℕ → In 1 evades-kinds.ps
-evades-at t = and 1 evades-kinds.ps (is 1 evades-kinds.ps μ-evades t) evades.Pre
+module _ (t : ℕ) where
+  abbrev given : In 1 kinds.ps
+  given = and 1 kinds.ps (is 1 kinds.ps μ t) f.Pre
 
-abbrev evades-below : ℕ → In 1 evades-kinds.ps
-evades-below t = and 1 evades-kinds.ps (falls 1 evades-kinds.ps _<_ μ-evades t) evades.Pre
+  abbrev below : In 1 kinds.ps
+  below = and 1 kinds.ps (falls 1 kinds.ps _<_ μ t) f.Pre
 
-evades-read-requires : (t : ℕ) → evades-lts.Need-read-requires (
-  read-reads.Asked,
-  read-reads.Learnt,
-  evades-below t,
-  evades.Post,
-) (evades-at t) evades.Post
-evades-read-requires t c κs =
-    c .before .pre .1 .inside
+  abbrev claims : lts.Claims
+  claims = (read-reads.Asked, read-reads.Learnt, below, f.Post)
 
-evades-evades-requires : (t : ℕ) → evades-lts.Need-evades-requires (
-  read-reads.Asked,
-  read-reads.Learnt,
-  evades-below t,
-  evades.Post,
-) (evades-at t) evades.Post
-evades-evades-requires t c κs =
-    let low = left-lower (c .before .before .before .args .room .now) (c .before .before .before .args .place) (c .before .before .before .pre .1) (c .before .read .result) (c .before .read .ensures) (omega (arith, c .match .keys2)) (omega (arith, c .match .keys2)) in
-    (omega (arith, c .before .before .before .pre .0, low .0), low .1)
+  -- The part, with its node.
+  abbrev reading : lts.After-read claims given f.Post → Reading
+  reading c =
+      record {
+        room = c .before .before .args .room .now;
+        place = c .before .before .args .place;
+        root = c .before .before .pre .1;
+        node = c .read .result;
+        here = c .read .ensures;
+      }
 
-evades-evades-requires-2 : (t : ℕ) → evades-lts.Need-evades-requires-2 (
-  read-reads.Asked,
-  read-reads.Learnt,
-  evades-below t,
-  evades.Post,
-) (evades-at t) evades.Post
-evades-evades-requires-2 t c κs =
-    let low = right-lower (c .before .before .before .before .before .args .room .now) (c .before .before .before .before .before .args .place) (c .before .before .before .before .before .pre .1) (c .before .before .before .read .result) (c .before .before .before .read .ensures) (omega (arith, c .before .before .match .keys2)) (omega (arith, c .before .before .match .keys2)) in
-    (omega (arith, c .before .before .before .before .before .pre .0, low .0), low .1)
+  -- The measure is the place number.
+  at-place : (c : lts.After-read claims given f.Post) → reading c .place ≡ t
+  at-place c = c .before .before .pre .0
 
-evades-evades-requires-3 : (t : ℕ) → evades-lts.Need-evades-requires-3 (
-  read-reads.Asked,
-  read-reads.Learnt,
-  evades-below t,
-  evades.Post,
-) (evades-at t) evades.Post
-evades-evades-requires-3 t c κs =
-    let low = left-lower (c .before .before .before .before .before .args .room .now) (c .before .before .before .before .before .args .place) (c .before .before .before .before .before .pre .1) (c .before .before .before .read .result) (c .before .before .before .read .ensures) (omega arith) (omega arith) in
-    (omega (arith, c .before .before .before .before .before .pre .0, low .0), low .1)
+  read-requires : lts.Need-read-requires claims given f.Post
+  read-requires c κs = c .before .pre .1 .inside
 
-evades-evades-requires-4 : (t : ℕ) → evades-lts.Need-evades-requires-4 (
-  read-reads.Asked,
-  read-reads.Learnt,
-  evades-below t,
-  evades.Post,
-) (evades-at t) evades.Post
-evades-evades-requires-4 t c κs =
-    let low = right-lower (c .before .before .before .before .before .before .before .args .room .now) (c .before .before .before .before .before .before .before .args .place) (c .before .before .before .before .before .before .before .pre .1) (c .before .before .before .before .before .read .result) (c .before .before .before .before .before .read .ensures) (omega arith) (omega arith) in
-    (omega (arith, c .before .before .before .before .before .before .before .pre .0, low .0), low .1)
+  evades-requires : lts.Need-evades-requires claims given f.Post
+  evades-requires c κs =
+      let r = (c .before) in
+      let six = c .match .keys2 in
+      let (lower, root) = left-lower (reading r) (omega arith) (omega arith) in
+      (omega (arith, at-place r), root)
 
-evades-returns : (t : ℕ) → evades-lts.Need-returns (
-  read-reads.Asked,
-  read-reads.Learnt,
-  evades-below t,
-  evades.Post,
-) (evades-at t) evades.Post
-evades-returns t c =
-    yes-at-empty (evades-descends (c .before .before .before .args .lifeline)) (c .before .before .before .args .room .now) (c .before .before .before .args .place) (c .before .before .before .pre .1) (c .before .read .result) (c .before .read .ensures) (c .match .keys1)
+  evades-requires-2 : lts.Need-evades-requires-2 claims given f.Post
+  evades-requires-2 c κs =
+      let r = (c .before .before .before) in
+      let six = c .before .before .match .keys2 in
+      let (lower, root) = right-lower (reading r) (omega arith) (omega arith) in
+      (omega (arith, at-place r), root)
 
-evades-returns-2 : (t : ℕ) → evades-lts.Need-returns-2 (
-  read-reads.Asked,
-  read-reads.Learnt,
-  evades-below t,
-  evades.Post,
-) (evades-at t) evades.Post
-evades-returns-2 t c =
-    alt-by-its-left (evades-descends (c .before .before .before .before .before .args .lifeline)) (c .before .before .before .before .before .args .room .now) (c .before .before .before .before .before .args .place) (c .before .before .before .before .before .pre .1) (c .before .before .before .read .result) (c .before .before .before .read .ensures) (c .before .evades .result) (c .before .evades .ensures) (c .before .before .match .keys2) (c .if1 .taken)
+  evades-requires-3 : lts.Need-evades-requires-3 claims given f.Post
+  evades-requires-3 c κs =
+      let r = (c .before .before .before) in
+      let (lower, root) = left-lower (reading r) (omega arith) (omega arith) in
+      (omega (arith, at-place r), root)
 
-evades-returns-3 : (t : ℕ) → evades-lts.Need-returns-3 (
-  read-reads.Asked,
-  read-reads.Learnt,
-  evades-below t,
-  evades.Post,
-) (evades-at t) evades.Post
-evades-returns-3 t c =
-    alt-by-its-right (evades-descends (c .before .before .before .before .before .before .args .lifeline)) (c .before .before .before .before .before .before .args .room .now) (c .before .before .before .before .before .before .args .place) (c .before .before .before .before .before .before .pre .1) (c .before .before .before .before .read .result) (c .before .before .before .before .read .ensures) (c .before .before .evades .result) (c .before .before .evades .ensures) (c .evades2 .result) (c .evades2 .ensures) (c .before .before .before .match .keys2) (c .before .if1 .left)
+  evades-requires-4 : lts.Need-evades-requires-4 claims given f.Post
+  evades-requires-4 c κs =
+      let r = (c .before .before .before .before .before) in
+      let (lower, root) = right-lower (reading r) (omega arith) (omega arith) in
+      (omega (arith, at-place r), root)
 
-evades-returns-4 : (t : ℕ) → evades-lts.Need-returns-4 (
-  read-reads.Asked,
-  read-reads.Learnt,
-  evades-below t,
-  evades.Post,
-) (evades-at t) evades.Post
-evades-returns-4 t c =
-    let (r, e, acts) = action-here (c .before .before .before .before .before .args .room .now) (c .before .before .before .before .before .args .place) (c .before .before .before .before .before .pre .1) (c .before .before .before .read .result) (c .before .before .before .read .ensures) (omega (arith, c .before .before .match .rest .0)) (omega arith) in
-    sym (ap (λ part. chart.evades part (c .before .before .before .before .before .args .lifeline)) acts)
+  returns : lts.Need-returns claims given f.Post
+  returns c =
+      yes-at-empty (evades-descends (c .before .before .before .args .lifeline)) (reading (c .before))
+      (c .match .keys1)
 
-evades-returns-5 : (t : ℕ) → evades-lts.Need-returns-5 (
-  read-reads.Asked,
-  read-reads.Learnt,
-  evades-below t,
-  evades.Post,
-) (evades-at t) evades.Post
-evades-returns-5 t c =
-    pair-by-its-right (evades-descends (c .before .before .before .before .before .before .before .before .args .lifeline)) (c .before .before .before .before .before .before .before .before .args .room .now) (c .before .before .before .before .before .before .before .before .args .place) (c .before .before .before .before .before .before .before .before .pre .1) (c .before .before .before .before .before .before .read .result) (c .before .before .before .before .before .before .read .ensures) (c .before .before .evades3 .result) (c .before .before .evades3 .ensures) (c .evades4 .result) (c .evades4 .ensures) (omega arith) (omega arith) (c .before .if4 .taken)
+  returns-2 : lts.Need-returns-2 claims given f.Post
+  returns-2 c =
+      alt-by-its-left (evades-descends (c .before .before .before .before .before .args .lifeline))
+      (reading (c .before .before .before)) (c .before .evades .result) (c .before .evades .ensures)
+      (c .before .before .match .keys2) (c .if1 .taken)
 
-evades-returns-6 : (t : ℕ) → evades-lts.Need-returns-6 (
-  read-reads.Asked,
-  read-reads.Learnt,
-  evades-below t,
-  evades.Post,
-) (evades-at t) evades.Post
-evades-returns-6 t c =
-    pair-by-its-left (evades-descends (c .before .before .before .before .before .before .before .args .lifeline)) (c .before .before .before .before .before .before .before .args .room .now) (c .before .before .before .before .before .before .before .args .place) (c .before .before .before .before .before .before .before .pre .1) (c .before .before .before .before .before .read .result) (c .before .before .before .before .before .read .ensures) (c .before .evades3 .result) (c .before .evades3 .ensures) (omega arith) (omega arith) (c .if4 .left)
+  returns-3 : lts.Need-returns-3 claims given f.Post
+  returns-3 c =
+      alt-by-its-right (evades-descends (c .before .before .before .before .before .before .args .lifeline))
+      (reading (c .before .before .before .before)) (c .before .before .evades .result)
+      (c .before .before .evades .ensures)
+      (c .evades2 .result) (c .evades2 .ensures) (c .before .before .before .match .keys2) (c .before .if1 .left)
 
-evades-returns-7 : (t : ℕ) → evades-lts.Need-returns-7 (
-  read-reads.Asked,
-  read-reads.Learnt,
-  evades-below t,
-  evades.Post,
-) (evades-at t) evades.Post
-evades-returns-7 t c =
-    yes-at-a-loop (evades-descends (c .before .before .before .before .before .before .args .lifeline)) (c .before .before .before .before .before .before .args .room .now) (c .before .before .before .before .before .before .args .place) (c .before .before .before .before .before .before .pre .1) (c .before .before .before .before .read .result) (c .before .before .before .before .read .ensures) (omega arith) (omega arith)
+  returns-4 : lts.Need-returns-4 claims given f.Post
+  returns-4 c =
+      let some = c .before .before .match .rest .0 in
+      let (receives, e, acts) = action-here (reading (c .before .before .before)) (omega arith) (omega arith) in
+      sym (ap (λ part. chart.evades part (c .before .before .before .before .before .args .lifeline)) acts)
 
-evades-returns-8 : (t : ℕ) → evades-lts.Need-returns-8 (
-  read-reads.Asked,
-  read-reads.Learnt,
-  evades-below t,
-  evades.Post,
-) (evades-at t) evades.Post
-evades-returns-8 t c =
-    yes-at-the-unknown (evades-descends (c .before .before .before .before .before .before .args .lifeline)) (c .before .before .before .before .before .before .args .room .now) (c .before .before .before .before .before .before .args .place) (c .before .before .before .before .before .before .pre .1) (c .before .before .before .before .read .result) (c .before .before .before .before .read .ensures) (omega arith)
+  returns-5 : lts.Need-returns-5 claims given f.Post
+  returns-5 c =
+      pair-by-its-right
+      (evades-descends (c .before .before .before .before .before .before .before .before .args .lifeline))
+      (reading (c .before .before .before .before .before .before)) (c .before .before .evades3 .result)
+      (c .before .before .evades3 .ensures)
+      (c .evades4 .result) (c .evades4 .ensures) (omega arith) (omega arith) (c .before .if4 .taken)
+
+  returns-6 : lts.Need-returns-6 claims given f.Post
+  returns-6 c =
+      pair-by-its-left (evades-descends (c .before .before .before .before .before .before .before .args .lifeline))
+      (reading (c .before .before .before .before .before)) (c .before .evades3 .result)
+      (c .before .evades3 .ensures)
+      (omega arith) (omega arith) (c .if4 .left)
+
+  returns-7 : lts.Need-returns-7 claims given f.Post
+  returns-7 c =
+      yes-at-a-loop (evades-descends (c .before .before .before .before .before .before .args .lifeline))
+      (reading (c .before .before .before .before)) (omega arith) (omega arith)
+
+  returns-8 : lts.Need-returns-8 claims given f.Post
+  returns-8 c =
+      yes-at-the-unknown (evades-descends (c .before .before .before .before .before .before .args .lifeline))
+      (reading (c .before .before .before .before)) (omega arith)
 
 pub +evades-spec : {M : Type 1} → statement M
-+evades-spec = close μ-evades λ t. evades-lts.spec (
-  read-reads.Asked,
-  read-reads.Learnt,
-  evades-below t,
-  evades.Post,
-)
-    (evades-at t)
-    evades.Post
-    (evades-read-requires t)
-    (evades-evades-requires t)
-    (evades-evades-requires-2 t)
-    (evades-evades-requires-3 t)
-    (evades-evades-requires-4 t)
-    (evades-returns t)
-    (evades-returns-2 t)
-    (evades-returns-3 t)
-    (evades-returns-4 t)
-    (evades-returns-5 t)
-    (evades-returns-6 t)
-    (evades-returns-7 t)
-    (evades-returns-8 t)
++evades-spec =
+    close μ λ t.
+    lts.spec (claims t) (given t) f.Post
+    (read-requires t) (evades-requires t) (evades-requires-2 t) (evades-requires-3 t) (evades-requires-4 t)
+    (returns t) (returns-2 t) (returns-3 t) (returns-4 t) (returns-5 t) (returns-6 t) (returns-7 t) (returns-8 t)

@@ -1,24 +1,18 @@
-use borrow.Author.Needs.{needs}
+-- `walk` goes from a part that stands in the room to the next. Assumes nothing.
+use Prim.Native.Nat.{_≤_, _<_, _-_}
+use mathlib.Core.List.{List}
 use mathlib.Core.Path.{_≡_, refl, _∙_}
 use native.Mathlib.Omega.{arith}
-use Rattle.chart.specs.Executing.{follows}
-use Rattle.room.specs.Room.{chartIn}
+use borrow.Author.Needs.{needs}
+use lib.ListN.{length}
+use Rattle.chart.specs.Executing.{Made, follows}
+use Rattle.room.specs.Room.{chartIn, Table, Rooted}
 use Rattle.room.specs.Building.{actionOf}
 use Rattle.room.proofs.Standing.{kept-table}
 use Rattle.room.proofs.Apart.{kept-rooted}
 use Rattle.follow.proofs.Onward.{follow-up-is-rooted, follow-up-is-below}
-use Prim.Native.Nat.{_≤_, _<_, _-_}
-use lib.ListN.{length}
-use Rattle.room.specs.Room.{Table, Rooted}
 use Rattle.rules.proofs.walk.Statement.{statement}
 use Rattle.rules.proofs.walk.Tie as tie
-use Rattle.rules.proofs.walk.Reads as reads
-use Rattle.rules.proofs.walk.Lts as lts
-use Rattle.follow.proofs.execute.Reads as execute-reads
-use Rattle.rules.proofs.action_of.Reads as action-of-reads
-use Rattle.rules.proofs.wide.Reads as wide-reads
-use Rattle.rules.proofs.write_follow_ups.Reads as write-follow-ups-reads
-use Rattle.rules.proofs.write_question.Reads as write-question-reads
 
 abbrev Inv-loop : tie.InvT-loop
 Inv-loop room₀ steps place₀ used₀ i₀ room place used i =
@@ -29,101 +23,112 @@ abbrev μ-loop : tie.MeasureT-loop
 
 loop-holds : tie.Need-loop-holds Inv-loop μ-loop
 loop-holds c =
-    (omega arith, refl, c .before .before .pre .0, c .before .before .pre .1, c .before .before .pre .2)
+    let pre = c .before .before .pre in
+    (omega arith, refl, pre .0, pre .1, pre .2)
 
 add-loop : tie.Need-add-loop Inv-loop μ-loop
-add-loop c =
-    omega arith
+add-loop c = omega arith
 
 shared-slice-read-action-of : tie.Need-shared-slice-read-action-of Inv-loop μ-loop
-shared-slice-read-action-of c =
-    omega arith
+shared-slice-read-action-of c = omega arith
 
 add-action-of : tie.Need-add-action-of Inv-loop μ-loop
-add-action-of c =
-    omega arith
+add-action-of c = omega arith
 
 shared-slice-read-action-of-2 : tie.Need-shared-slice-read-action-of-2 Inv-loop μ-loop
-shared-slice-read-action-of-2 c =
-    omega arith
+shared-slice-read-action-of-2 c = omega arith
 
 action-of-requires : tie.Need-action-of-requires Inv-loop μ-loop
-action-of-requires c κs =
-    tt
+action-of-requires c κs = tt
 
 write-question-requires : tie.Need-write-question-requires Inv-loop μ-loop
-write-question-requires c κs =
-    tt
+write-question-requires c κs = tt
 
 write-follow-ups-requires : tie.Need-write-follow-ups-requires Inv-loop μ-loop
 write-follow-ups-requires c κs =
-    (c .before .before .before .before .before .before .loop .inv .2, c .before .before .before .before .before .before .loop .inv .3, c .before .before .before .before .before .before .loop .inv .4)
+    let inv = c .before .before .before .before .before .before .loop .inv in
+    (inv .2, inv .3, inv .4)
 
 add-wide : tie.Need-add-wide Inv-loop μ-loop
-add-wide c =
-    omega arith
+add-wide c = omega arith
 
 shared-slice-read-wide : tie.Need-shared-slice-read-wide Inv-loop μ-loop
-shared-slice-read-wide c =
-    omega arith
+shared-slice-read-wide c = omega arith
 
 wide-requires : tie.Need-wide-requires Inv-loop μ-loop
-wide-requires c κs =
-    tt
+wide-requires c κs = tt
 
 execute-requires : tie.Need-execute-requires Inv-loop μ-loop
 execute-requires c κs =
-    let at = c .before .before .before .before .before .before .before .before .before .before .before .before .loop in
-    (kept-table (at .used) (at .room) (c .before .before .before .before .before .write-follow-ups .last .0) (c .before .before .before .before .before .write-follow-ups .ensures) (at .inv .2), kept-rooted (at .used) (at .room) (c .before .before .before .before .before .write-follow-ups .last .0) (at .place) (c .before .before .before .before .before .write-follow-ups .ensures) (at .inv .2) (at .inv .3) (at .inv .4), at .inv .4)
+    let w = c .before .before .before .before .before in
+    let at = w .before .before .before .before .before .before .before .loop in
+    let after = w .write-follow-ups .last .0 in
+    let keeps = w .write-follow-ups .ensures in (
+      kept-table (at .used) (at .room) after keeps (at .inv .2),
+      kept-rooted (at .used) (at .room) after (at .place) keeps (at .inv .2) (at .inv .3) (at .inv .4),
+      at .inv .4,
+    )
 
 enum-known-answer : tie.Need-enum-known-answer Inv-loop μ-loop
-enum-known-answer c =
-    search needs
+enum-known-answer c = search needs
 
 enum-told : tie.Need-enum-told Inv-loop μ-loop
-enum-told c =
-    search needs
+enum-told c = search needs
 
 same-length : tie.Need-same-length Inv-loop μ-loop
 same-length c =
-    c .before .before .before .before .execute .kept .0 ∙ c .before .before .before .before .before .before .before .before .before .before .write-follow-ups .kept .0 ∙ c .before .before .before .before .before .before .before .before .before .before .before .before .before .before .before .before .before .loop .inv .1
+    let w = c .before .before .before .before .before .before .before .before .before .before in
+    c .before .before .before .before .execute .kept .0 ∙ w .write-follow-ups .kept .0 ∙ w .before .before .before
+    .before .before .before .before .loop .inv .1
 
 returns : tie.Need-returns Inv-loop μ-loop
-returns c =
-    tt
+returns c = tt
 
 cast-if1 : tie.Need-cast-if1 Inv-loop μ-loop
-cast-if1 c =
-    omega arith
+cast-if1 c = omega arith
 
 same-length-2 : tie.Need-same-length-2 Inv-loop μ-loop
 same-length-2 c =
-    c .before .before .before .before .before .before .before .execute .kept .0 ∙ c .before .before .before .before .before .before .before .before .before .before .before .before .before .write-follow-ups .kept .0 ∙ c .before .before .before .before .before .before .before .before .before .before .before .before .before .before .before .before .before .before .before .before .loop .inv .1
+    let w = c .before .before .before .before .before .before .before .before .before .before .before .before .before in
+    c .before .before .before .before .before .before .before .execute .kept .0 ∙ w .write-follow-ups .kept .0 ∙ w
+    .before .before .before .before .before .before .before .loop .inv .1
 
 returns-2 : tie.Need-returns-2 Inv-loop μ-loop
-returns-2 c =
-    tt
+returns-2 c = tt
 
 add-i : tie.Need-add-i Inv-loop μ-loop
 add-i c =
-    omega (arith, c .before .before .before .before .before .before .before .before .before .before .before .before .before .before .before .before .before .before .before .loop-test .taken, c .before .before .before .before .before .before .before .before .before .before .before .before .before .before .before .before .before .before .before .before .before .before .before .good)
+    let w = c .before .before .before .before .before .before .before .before .before .before .before .before .before in
+    let l = w .before .before .before .before .before .before in
+    omega (arith, l .loop-test .taken, l .before .before .before .before .good)
 
 loop-less : tie.Need-loop-less Inv-loop μ-loop
-loop-less c =
-    omega arith
+loop-less c = omega arith
 
 loop-again : tie.Need-loop-again Inv-loop μ-loop
 loop-again c =
-    let made = rw (c .before .before .before .answer .given .1) at (c .before .before .before .before .before .before .before .execute .ensures) in
-    (omega arith, c .before .before .before .before .before .before .before .execute .kept .0 ∙ c .before .before .before .before .before .before .before .before .before .before .before .before .before .write-follow-ups .kept .0 ∙ c .before .before .before .before .before .before .before .before .before .before .before .before .before .before .before .before .before .before .before .before .loop .inv .1, made .1 .held .table, follow-up-is-rooted (c .before .before .before .before .before .before .before .before .before .before .before .before .before .write-follow-ups .last .0) (c .before .before .before .before .before .before .before .before .before .before .before .before .before .before .before .before .before .before .before .before .loop .used) (follows (chartIn (c .before .before .before .before .before .before .before .before .before .before .before .before .before .write-follow-ups .last .0) (c .before .before .before .before .before .before .before .before .before .before .before .before .before .before .before .before .before .before .before .before .loop .place)) (actionOf (c .before .before .before .before .before .before .before .before .before .before .before .before .before .before .before .before .action-of .result))) (c .before .before .before .before .before .before .before .before .wide .result) (c .before .before .before .before .before .before .before .execute .last .0) (c .before .before .before .answer .given .0 .0) made (omega arith), follow-up-is-below (c .before .before .before .before .before .before .before .before .before .before .before .before .before .write-follow-ups .last .0) (c .before .before .before .before .before .before .before .before .before .before .before .before .before .before .before .before .before .before .before .before .loop .used) (follows (chartIn (c .before .before .before .before .before .before .before .before .before .before .before .before .before .write-follow-ups .last .0) (c .before .before .before .before .before .before .before .before .before .before .before .before .before .before .before .before .before .before .before .before .loop .place)) (actionOf (c .before .before .before .before .before .before .before .before .before .before .before .before .before .before .before .before .action-of .result))) (c .before .before .before .before .before .before .before .before .wide .result) (c .before .before .before .before .before .before .before .execute .last .0) (c .before .before .before .answer .given .0 .0) made (omega arith))
+    let e = c .before .before .before .before .before .before .before in
+    let w = e .before .before .before .before .before .before in
+    let at = w .before .before .before .before .before .before .before .loop in
+    let room = w .write-follow-ups .last .0 in
+    let action = actionOf (w .before .before .before .action-of .result) in
+    let asked : List Made = follows (chartIn room (at .place)) action in
+    let x = c .before .before .before .answer .given in
+    let made = rw (x .1) at (e .execute .ensures) in
+    let k = e .before .wide .result in
+    let after = e .execute .last .0 in (
+      omega arith,
+      e .execute .kept .0 ∙ w .write-follow-ups .kept .0 ∙ at .inv .1,
+      made .1 .held .table,
+      follow-up-is-rooted room (at .used) asked k after (x .0 .0) made (omega arith),
+      follow-up-is-below room (at .used) asked k after (x .0 .0) made (omega arith),
+    )
 
 same-length-3 : tie.Need-same-length-3 Inv-loop μ-loop
-same-length-3 c =
-    c .before .loop .inv .1
+same-length-3 c = c .before .loop .inv .1
 
 returns-3 : tie.Need-returns-3 Inv-loop μ-loop
-returns-3 c =
-    tt
+returns-3 c = tt
 
 pub walk-spec : {M : Type 1} → statement M
 walk-spec =

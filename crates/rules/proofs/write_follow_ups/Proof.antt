@@ -1,22 +1,18 @@
-use borrow.Author.Needs.{needs}
+-- `write_follow_ups` keeps what was in use: each follow-up is built above it. Assumes nothing.
+use Prim.Native.Nat.{_≤_, _-_}
+use mathlib.Core.List.{List}
 use mathlib.Core.Path.{_∙_}
 use native.Mathlib.Omega.{arith}
-use Rattle.chart.specs.Executing.{follows}
-use Rattle.room.specs.Room.{chartIn}
+use borrow.Author.Needs.{needs}
+use Rattle.chart.specs.Executing.{Made, follows}
+use Rattle.room.specs.Room.{chartIn, Kept}
 use Rattle.room.specs.Building.{actionOf}
 use Rattle.room.proofs.Standing.{kept-self, kept-table, kept-then}
 use Rattle.room.proofs.Apart.{kept-rooted}
 use Rattle.follow.proofs.Answering.{answer-keeps}
 use Rattle.follow.proofs.Onward.{follow-up-is-rooted}
-use Prim.Native.Nat.{_≤_, _-_}
-use Rattle.room.specs.Room.{Kept}
 use Rattle.rules.proofs.write_follow_ups.Statement.{statement}
 use Rattle.rules.proofs.write_follow_ups.Tie as tie
-use Rattle.rules.proofs.write_follow_ups.Reads as reads
-use Rattle.rules.proofs.write_follow_ups.Lts as lts
-use Rattle.follow.proofs.execute.Reads as execute-reads
-use Rattle.rules.proofs.indent.Reads as indent-reads
-use Rattle.rules.proofs.write_line.Reads as write-line-reads
 
 abbrev Inv-loop : tie.InvT-loop
 Inv-loop room₀ place action used k₀ room k = (k ≤ 4) × Kept used room₀ room
@@ -24,74 +20,92 @@ Inv-loop room₀ place action used k₀ room k = (k ≤ 4) × Kept used room₀ 
 abbrev μ-loop : tie.MeasureT-loop
 μ-loop room₀ place action used k₀ room k = 4 - k
 
+-- The follow-ups that are asked for.
+abbrev asked : tie.At-loop Inv-loop μ-loop → List Made
+asked c =
+    let s = c .before .before .args in
+    follows (chartIn (c .loop .room) (s .place)) (actionOf (s .action))
+
+-- What is in use is kept by one more of them.
+still-kept : (c : tie.After-execute Inv-loop μ-loop)
+    → Kept (c .before .before .before .before .before .args .used)
+    (c .before .before .before .before .before .args .room .now) (c .execute .last .0)
+still-kept c =
+    let l = c .before .before .before in
+    let s = l .before .before .args in
+    let done = c .execute in
+    kept-then (s .used) (s .used) (s .room .now) (l .loop .room) (done .last .0) (omega arith) (l .loop .inv .1)
+    (answer-keeps (l .loop .room) (s .used) (asked l) (l .loop .k) (done .last .0) (done .result) (done .ensures))
+
 loop-holds : tie.Need-loop-holds Inv-loop μ-loop
 loop-holds c =
-    (omega arith, kept-self (c .before .args .used) (c .before .args .room .now))
+    let s = c .before .args in
+    (omega arith, kept-self (s .used) (s .room .now))
 
 execute-requires : tie.Need-execute-requires Inv-loop μ-loop
 execute-requires c κs =
-    let s = c .before .before .before .before in
-    (kept-table (s .args .used) (s .args .room .now) (c .before .before .loop .room) (c .before .before .loop .inv .1) (s .pre .0), kept-rooted (s .args .used) (s .args .room .now) (c .before .before .loop .room) (s .args .place) (c .before .before .loop .inv .1) (s .pre .0) (s .pre .1) (s .pre .2), s .pre .2)
+    let l = c .before .before in
+    let s = l .before .before .args in
+    let pre = l .before .before .pre in
+    let keeps = l .loop .inv .1 in (
+      kept-table (s .used) (s .room .now) (l .loop .room) keeps (pre .0),
+      kept-rooted (s .used) (s .room .now) (l .loop .room) (s .place) keeps (pre .0) (pre .1) (pre .2),
+      pre .2,
+    )
 
 enum-known-answer : tie.Need-enum-known-answer Inv-loop μ-loop
-enum-known-answer c =
-    search needs
+enum-known-answer c = search needs
 
 enum-told : tie.Need-enum-told Inv-loop μ-loop
-enum-told c =
-    search needs
+enum-told c = search needs
 
 same-length : tie.Need-same-length Inv-loop μ-loop
 same-length c =
-    c .before .before .before .before .execute .kept .0 ∙ c .before .before .before .before .before .before .before .loop .inv .1 .long
+    c .before .before .before .before .execute .kept .0 ∙ c .before .before .before .before .before .before .before
+    .loop .inv .1 .long
 
 returns : tie.Need-returns Inv-loop μ-loop
-returns c =
-    let s = c .before .before .before .before .before .before .before .before .before .args in
-    kept-then (s .used) (s .used) (s .room .now) (c .before .before .before .before .before .before .before .loop .room) (c .before .before .before .before .execute .last .0) (omega arith) (c .before .before .before .before .before .before .before .loop .inv .1) (answer-keeps (c .before .before .before .before .before .before .before .loop .room) (s .used) (follows (chartIn (c .before .before .before .before .before .before .before .loop .room) (s .place)) (actionOf (s .action))) (c .before .before .before .before .before .before .before .loop .k) (c .before .before .before .before .execute .last .0) (c .before .before .before .before .execute .result) (c .before .before .before .before .execute .ensures))
+returns c = still-kept (c .before .before .before .before)
 
 cast-if1 : tie.Need-cast-if1 Inv-loop μ-loop
-cast-if1 c =
-    omega arith
+cast-if1 c = omega arith
 
 same-length-2 : tie.Need-same-length-2 Inv-loop μ-loop
 same-length-2 c =
-    c .before .before .before .before .before .before .before .execute .kept .0 ∙ c .before .before .before .before .before .before .before .before .before .before .loop .inv .1 .long
+    c .before .before .before .before .before .before .before .execute .kept .0 ∙ c .before .before .before .before
+    .before .before .before .before .before .before .loop .inv .1 .long
 
 returns-2 : tie.Need-returns-2 Inv-loop μ-loop
-returns-2 c =
-    let s = c .before .before .before .before .before .before .before .before .before .before .before .before .args in
-    kept-then (s .used) (s .used) (s .room .now) (c .before .before .before .before .before .before .before .before .before .before .loop .room) (c .before .before .before .before .before .before .before .execute .last .0) (omega arith) (c .before .before .before .before .before .before .before .before .before .before .loop .inv .1) (answer-keeps (c .before .before .before .before .before .before .before .before .before .before .loop .room) (s .used) (follows (chartIn (c .before .before .before .before .before .before .before .before .before .before .loop .room) (s .place)) (actionOf (s .action))) (c .before .before .before .before .before .before .before .before .before .before .loop .k) (c .before .before .before .before .before .before .before .execute .last .0) (c .before .before .before .before .before .before .before .execute .result) (c .before .before .before .before .before .before .before .execute .ensures))
+returns-2 c = still-kept (c .before .before .before .before .before .before .before)
 
 indent-requires : tie.Need-indent-requires Inv-loop μ-loop
-indent-requires c κs =
-    tt
+indent-requires c κs = tt
 
 write-line-requires : tie.Need-write-line-requires Inv-loop μ-loop
 write-line-requires c κs =
-    let s = c .before .before .before .before .before .before .before .before .before .before .before .before .before .before .args in
-    follow-up-is-rooted (c .before .before .before .before .before .before .before .before .before .before .before .before .loop .room) (s .used) (follows (chartIn (c .before .before .before .before .before .before .before .before .before .before .before .before .loop .room) (s .place)) (actionOf (s .action))) (c .before .before .before .before .before .before .before .before .before .before .before .before .loop .k) (c .before .before .before .before .before .before .before .before .before .execute .last .0) (c .before .before .before .before .before .answer .given .0 .0) (rw (c .before .before .before .before .before .answer .given .1) at (c .before .before .before .before .before .before .before .before .before .execute .ensures)) (omega arith)
+    let e = c .before .before .before .before .before .before .before .before .before in
+    let l = e .before .before .before in
+    let s = l .before .before .args in
+    let x = c .before .before .before .before .before .answer .given in
+    let made = rw (x .1) at (e .execute .ensures) in
+    follow-up-is-rooted (l .loop .room) (s .used) (asked l) (l .loop .k) (e .execute .last .0) (x .0 .0) made
+    (omega arith)
 
 add-k : tie.Need-add-k Inv-loop μ-loop
-add-k c =
-    omega arith
+add-k c = omega arith
 
 loop-less : tie.Need-loop-less Inv-loop μ-loop
-loop-less c =
-    omega arith
+loop-less c = omega arith
 
 loop-again : tie.Need-loop-again Inv-loop μ-loop
 loop-again c =
-    let s = c .before .before .before .before .before .before .before .before .before .before .before .before .before .before .before .args in
-    (omega arith, kept-then (s .used) (s .used) (s .room .now) (c .before .before .before .before .before .before .before .before .before .before .before .before .before .loop .room) (c .before .before .before .before .before .before .before .before .before .before .execute .last .0) (omega arith) (c .before .before .before .before .before .before .before .before .before .before .before .before .before .loop .inv .1) (answer-keeps (c .before .before .before .before .before .before .before .before .before .before .before .before .before .loop .room) (s .used) (follows (chartIn (c .before .before .before .before .before .before .before .before .before .before .before .before .before .loop .room) (s .place)) (actionOf (s .action))) (c .before .before .before .before .before .before .before .before .before .before .before .before .before .loop .k) (c .before .before .before .before .before .before .before .before .before .before .execute .last .0) (c .before .before .before .before .before .before .before .before .before .before .execute .result) (c .before .before .before .before .before .before .before .before .before .before .execute .ensures)))
+    (omega arith, still-kept (c .before .before .before .before .before .before .before .before .before .before))
 
 same-length-3 : tie.Need-same-length-3 Inv-loop μ-loop
-same-length-3 c =
-    c .before .loop .inv .1 .long
+same-length-3 c = c .before .loop .inv .1 .long
 
 returns-3 : tie.Need-returns-3 Inv-loop μ-loop
-returns-3 c =
-    c .before .loop .inv .1
+returns-3 c = c .before .loop .inv .1
 
 pub write-follow-ups-spec : {M : Type 1} → statement M
 write-follow-ups-spec =
