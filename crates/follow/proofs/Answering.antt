@@ -11,10 +11,10 @@ use Rattle.chart.specs.Executing.Made.{newEmpty}
 use Rattle.room.specs.declared.Root.{Root}
 use Rattle.room.specs.declared.Executed.{Executed}
 use Rattle.room.specs.declared.Executed.the-variants.{FollowUp, Missing}
-use Rattle.room.specs.Room.{Table, Kept}
+use Rattle.room.specs.Room.{Kept}
 use Rattle.room.specs.Building.{Builds, Follows}
-use Rattle.room.proofs.Standing.{kept-then, kept-table}
-use Rattle.room.proofs.Adding.{builds-more, kept-then-builds}
+use Rattle.room.proofs.Standing.{kept-then}
+use Rattle.room.proofs.Adding.{kept-then-builds}
 
 -- Inside a list the default is not met.
 default-not-met : (xs : List Made) (k : ℕ) (d e : Made) → k < length xs → getD xs k d ≡ getD xs k e
@@ -26,7 +26,8 @@ changed-at :
     (f : Made → Made) (xs : List Made) (k : ℕ) → k < length xs
     → getD (map f xs) k newEmpty ≡ f (getD xs k newEmpty)
 changed-at f xs k h =
-    default-not-met (map f xs) k newEmpty (f newEmpty) (omega (arith, length-map xs f)) ∙ List·getD-map f xs k newEmpty
+    default-not-met (map f xs) k newEmpty (f newEmpty) (omega (arith, length-map xs f)) ∙ List·getD-map f xs k
+    newEmpty
 
 module _ (before : List ℕ) (used : ℕ) (xs : List Made) (k : ℕ) where
   pub answer-keeps : (after : List ℕ) (e : Executed) → Follows before used xs k after e → Kept used before after
@@ -36,7 +37,8 @@ module _ (before : List ℕ) (used : ℕ) (xs : List Made) (k : ℕ) where
   -- All changed alike.
   pub changed-follow-up :
       (f : Made → Made) (after : List ℕ) (root : Root) → k < length xs
-      → Builds before used (f (getD xs k newEmpty)) after root → Follows before used (map f xs) k after (FollowUp root)
+      → Builds before used (f (getD xs k newEmpty)) after root
+      → Follows before used (map f xs) k after (FollowUp root)
   changed-follow-up f after root h b =
       (omega (arith, length-map xs f), subst (λ m. Builds before used m after root) (sym (changed-at f xs k h)) b)
 

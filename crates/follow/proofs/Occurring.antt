@@ -1,26 +1,22 @@
 -- An action in a log and an action of a chart: when they are the same, and the follow-up of the one by the other.
 -- Assumes nothing.
-use Prim.Native.Nat.{ℕ, _+_, _-_, _<_, _≤_}
+use Prim.Native.Nat.{ℕ, _-_, _≤_}
 use mathlib.Core.Bool.{Bool, true, false, Bool·beq, _&&_}
-use mathlib.Core.List.{List, [], _∷_}
+use mathlib.Core.List.{List}
 use mathlib.Core.Logic.{_≢_}
-use mathlib.Core.Path.{_≡_, refl, ap, sym, subst, _∙_}
+use mathlib.Core.Path.{_≡_, refl, sym, _∙_}
 use native.Mathlib.Omega.{arith}
 use lib.Dec.{eqb}
 use borrow.Author.Tests.{eq-eqb, ne-eqb}
-use lib.ListN.{length, getD}
 use Rattle.chart.specs.Action.{Action, same}
-use Rattle.chart.specs.Chart.Chart.{act}
 use Rattle.chart.specs.Executing.{follows}
-use Rattle.chart.specs.Executing.Made.{newEmpty}
 use Rattle.node.specs.declared.Node.{Node}
 use Rattle.node.specs.Kind.{kindOf}
 use Rattle.node.specs.Kind.Kind.{action}
-use Rattle.node.proofs.Numbering.{numberOf, kind-has-its-number}
-use Rattle.room.specs.declared.Root.{Root}
+use Rattle.node.proofs.Numbering.{kind-has-its-number}
 use Rattle.room.specs.declared.Executed.the-variants.{FollowUp, Missing}
-use Rattle.room.specs.Room.{Table, Kept}
-use Rattle.room.specs.Building.{Builds, Follows, added, rootAt}
+use Rattle.room.specs.Room.{Table}
+use Rattle.room.specs.Building.{Follows, added, rootAt}
 use Rattle.room.proofs.Standing.{kept-self}
 use Rattle.room.proofs.Adding.{empty-builds}
 use Rattle.follow.specs.Passing.{occurrences}

@@ -1,41 +1,33 @@
 -- Executing in a pair. Each law is one case of 01's rules: what the code answers is the answer for the follow-ups that
 -- the rule names.
 -- Assumes nothing.
-use Prim.Native.Nat.{ℕ, suc, _+_, _<_, _≤_}
+use Prim.Native.Nat.{ℕ, _+_, _<_}
 use mathlib.Core.Bool.{Bool, true, false, cond}
 use mathlib.Core.List.{List, [], _∷_, _++_, map}
 use mathlib.Core.Logic.{_≢_}
-use mathlib.Core.Path.{_≡_, refl, ap, sym, subst, _∙_}
+use mathlib.Core.Path.{_≡_, refl, ap, sym, subst}
 use native.Mathlib.Omega.{arith}
 use lib.Dec.{T}
 use borrow.Author.Tests.{eqb-true}
-use lib.ListN.{length, getD}
 use Rattle.chart.specs.Action.{Action}
-use Rattle.chart.specs.Chart.{Chart, Order}
+use Rattle.chart.specs.Chart.{Chart}
 use Rattle.chart.specs.Chart.Order.{strict, seq, par}
 use Rattle.chart.specs.Executing.{Made, terminates, evades, prune, onRight, follows}
-use Rattle.chart.specs.Executing.Made.{kept, newEmpty, newPair}
+use Rattle.chart.specs.Executing.Made.{kept, newPair}
 use Rattle.node.specs.Kind.{Pair, kindOf, paired}
 use Rattle.node.specs.Kind.Pair.{composed, choice}
 use Rattle.node.specs.Kind.Kind.{pairs}
 use Rattle.node.proofs.Ranges.{strict-is-three, seq-is-four, par-is-five, six-is-the-choice}
-use Rattle.node.proofs.Numbering.{numberOf, kind-has-its-number, one-pair, else-the-choice}
+use Rattle.node.proofs.Numbering.{kind-has-its-number, one-pair, else-the-choice}
 use Rattle.room.specs.declared.Root.{Root}
 use Rattle.room.specs.declared.Executed.{Executed}
 use Rattle.room.specs.declared.Executed.the-variants.{FollowUp, Missing}
-use Rattle.room.specs.Room.{chartIn, Table, Rooted, Kept}
-use Rattle.room.specs.Building.{added, rootAt, Builds, Prunes, Follows}
-use Rattle.room.proofs.Standing.{kept-then, kept-table}
+use Rattle.room.specs.Room.{chartIn, Table, Kept}
+use Rattle.room.specs.Building.{added, rootAt, Builds, Follows}
+use Rattle.room.proofs.Standing.{kept-then}
 use Rattle.room.proofs.Adding.{builds-more, kept-builds, pair-builds, pair-builds-backward}
 use Rattle.follow.specs.Passing.{besideRight, besideLeft, noneOf, Carries, Turns, Beside}
-use Rattle.follow.proofs.Answering.{
-  answer-keeps,
-  changed-follow-up,
-  changed-missing,
-  in-the-first,
-  in-the-second,
-  none-to-follow,
-}
+use Rattle.follow.proofs.Answering.{answer-keeps, changed-follow-up, changed-missing, none-to-follow}
 
 -- The follow-ups of a pair are those of its left side, and then those that come of its right side's.
 pub follows-of-a-pair :
@@ -63,7 +55,8 @@ pub left-replaced :
     → Carries room x (besideRight q (chartIn room place))
     (added room (x .used) (record { kind = kind; a = x .place; b = place })) (rootAt room (x .used))
 left-replaced room kind place x (composed o) e other table below =
-    λ before used m start b. pair-builds b (composed o) kind (start .counted) e (kept-builds room (x .used) place table (λ h. below))
+    λ before used m start b. pair-builds b (composed o) kind (start .counted) e
+    (kept-builds room (x .used) place table (λ h. below))
 left-replaced room kind place x choice e other table below =
     absurd (other (kind-has-its-number kind (pairs choice) e tt))
 

@@ -1,20 +1,19 @@
 -- Executing at a place, by the ranges of kinds over which the code decides: from the answers at its parts comes the
 -- answer for the follow-ups of the chart that stands there.
 -- Assumes nothing.
-use Prim.Native.Nat.{ℕ, suc, _<_, _≤_}
-use mathlib.Core.Bool.{Bool}
-use mathlib.Core.List.{List, [], _∷_, _++_, map}
-use mathlib.Core.Path.{_≡_, refl, ap, sym, subst, _∙_}
+use Prim.Native.Nat.{ℕ, _<_, _≤_}
+use mathlib.Core.List.{List, _++_, map}
+use mathlib.Core.Path.{_≡_, ap, sym, subst, _∙_}
 use native.Mathlib.Omega.{arith}
 use lib.Dec.{eqb}
 use lib.ListN.{length, getD}
 use Rattle.chart.specs.Action.{Action}
-use Rattle.chart.specs.Chart.{Chart, Loop}
+use Rattle.chart.specs.Chart.{Loop}
 use Rattle.chart.specs.Chart.Chart.{empty, act, loop}
 use Rattle.chart.specs.Executing.{Made, afterRound, follows}
 use Rattle.chart.specs.Executing.Made.{newEmpty}
 use Rattle.node.specs.declared.Node.{Node}
-use Rattle.node.specs.Kind.{Pair, kindOf, paired}
+use Rattle.node.specs.Kind.{Pair, kindOf}
 use Rattle.node.specs.Kind.Kind.{pairs, loops}
 use Rattle.node.proofs.Ranges.{three-to-six-are-pairs}
 use Rattle.room.specs.declared.Root.{Root}
@@ -114,81 +113,91 @@ module _ (work : Working) (k : ℕ) (a : Action) where
         ∙ follows-of-a-pair q (chartIn before (n .a)) (chartIn before (n .b)) a
 
     -- A follow-up on its left side.
-    module _ (middle : List ℕ) (x : Root) (on-left : Follows before used (followsAt (n .a)) k middle (FollowUp x)) where
-      more : used ≤ x .used
-      more = builds-more (on-left .1) (table .counted)
+    module _ (middle : List ℕ) (x : Root) (on-left : Follows before used (followsAt (n .a)) k middle (FollowUp x))
+      where
+        more : used ≤ x .used
+        more = builds-more (on-left .1) (table .counted)
 
-      pub asks-to-carry : Table middle (x .used) × n .b < x .used
-      asks-to-carry = let (b, there) = right-there in (on-left .1 .held .table, omega (arith, more))
+        pub asks-to-carry : Table middle (x .used) × n .b < x .used
+        asks-to-carry = let (b, there) = right-there in (on-left .1 .held .table, omega (arith, more))
 
-      pub on-its-left :
-          (after : List ℕ) (y : Root)
-          → ((q : Pair) → kindOf (n .kind) ≡ pairs q → Carries middle x (besideRight q (chartIn middle (n .b))) after y)
-          → Follows before used (followsAt place) k after (FollowUp y)
-      on-its-left after y carries =
-          let (q, is) = three-to-six-are-pairs (n .kind) low high in
-          let (b, there) = right-there in
-          let (h, built) = on-left in
-          let same : chartIn middle (n .b) ≡ chartIn before (n .b)
-          = kept-chart used before middle (built .kept) (n .b) (omega arith) (there .inside) in
-          let m = getD (followsAt (n .a)) k newEmpty in
-          let carried : Builds before used (besideRight q (chartIn before (n .b)) m) after y
-          = subst (λ c. Builds before used (besideRight q c m) after y) same (carries q is before used m table built) in
-          subst (λ xs. Follows before used xs k after (FollowUp y)) (sym (follows-there q is))
-          (in-the-first before used (map (besideRight q (chartIn before (n .b))) (followsAt (n .a))) k
-          (besideLeft q (chartIn before (n .a)) (a .line) (followsAt (n .b))) after y
-          (changed-follow-up before used (followsAt (n .a)) k (besideRight q (chartIn before (n .b))) after y h carried))
+        pub on-its-left :
+            (after : List ℕ) (y : Root)
+            → ((q : Pair) → kindOf (n .kind) ≡ pairs q → Carries middle x (besideRight q (chartIn middle (n .b))) after
+            y)
+            → Follows before used (followsAt place) k after (FollowUp y)
+        on-its-left after y carries =
+            let (q, is) = three-to-six-are-pairs (n .kind) low high in
+            let (b, there) = right-there in
+            let (h, built) = on-left in
+            let same : chartIn middle (n .b) ≡ chartIn before (n .b)
+            = kept-chart used before middle (built .kept) (n .b) (omega arith) (there .inside) in
+            let m = getD (followsAt (n .a)) k newEmpty in
+            let carried : Builds before used (besideRight q (chartIn before (n .b)) m) after y
+            = subst (λ c. Builds before used (besideRight q c m) after y) same (carries q is before used m table built)
+            in
+            subst (λ xs. Follows before used xs k after (FollowUp y)) (sym (follows-there q is))
+            (in-the-first before used (map (besideRight q (chartIn before (n .b))) (followsAt (n .a))) k
+            (besideLeft q (chartIn before (n .a)) (a .line) (followsAt (n .b))) after y
+            (changed-follow-up before used (followsAt (n .a)) k (besideRight q (chartIn before (n .b))) after y h
+            carried))
 
     -- None on its left side, and so many still to be passed over.
-    module _ (middle : List ℕ) (more : ℕ) (on-left : Follows before used (followsAt (n .a)) k middle (Missing more)) where
-      middle-table : Table middle used
-      middle-table = kept-table used before middle (on-left .1) table
+    module _ (middle : List ℕ) (more : ℕ) (on-left : Follows before used (followsAt (n .a)) k middle (Missing more))
+      where
+        middle-table : Table middle used
+        middle-table = kept-table used before middle (on-left .1) table
 
-      inside-middle : (p : ℕ) → p < place → Rooted before p → Rooted middle p
-      inside-middle p h there =
-          table-rooted middle used p middle-table (omega arith) (omega (arith, there .inside, on-left .1 .long))
+        inside-middle : (p : ℕ) → p < place → Rooted before p → Rooted middle p
+        inside-middle p h there =
+            table-rooted middle used p middle-table (omega arith) (omega (arith, there .inside, on-left .1 .long))
 
-      pub asks-right : (n .b < place) × (Table middle used × Rooted middle (n .b) × n .b < used)
-      asks-right = let (b, there) = right-there in (b, (middle-table, inside-middle (n .b) b there, omega arith))
+        pub asks-right : (n .b < place) × (Table middle used × Rooted middle (n .b) × n .b < used)
+        asks-right = let (b, there) = right-there in (b, (middle-table, inside-middle (n .b) b there, omega arith))
 
-      module _ (room : List ℕ) (right : Executed)
-          (on-right : Follows middle used (follows (chartIn middle (n .b)) a) more room right) where
-        keeps-right : Kept used middle room
-        keeps-right = answer-keeps middle used (follows (chartIn middle (n .b)) a) more room right on-right
+        module _ (room : List ℕ) (right : Executed)
+            (on-right : Follows middle used (follows (chartIn middle (n .b)) a) more room right) where
+          keeps-right : Kept used middle room
+          keeps-right = answer-keeps middle used (follows (chartIn middle (n .b)) a) more room right on-right
 
-        pub asks-to-turn : Rooted room (n .a) × Beside room (n .a) right
-        asks-to-turn =
-            let (l, there) = left-lower r low high in
-            let inside : n .a < length room = omega (arith, there .inside, on-left .1 .long, keeps-right .long) in (
-              table-rooted room used (n .a) (kept-table used middle room keeps-right middle-table) (omega arith) inside,
-              stands-beside middle used (n .a) (follows (chartIn middle (n .b)) a) more room right middle-table
-                  (omega arith) on-right,
-            )
+          pub asks-to-turn : Rooted room (n .a) × Beside room (n .a) right
+          asks-to-turn =
+              let (l, there) = left-lower r low high in
+              let inside : n .a < length room = omega (arith, there .inside, on-left .1 .long, keeps-right .long) in (
+                table-rooted room used (n .a) (kept-table used middle room keeps-right middle-table) (omega arith)
+                    inside,
+                stands-beside middle used (n .a) (follows (chartIn middle (n .b)) a) more room right middle-table
+                    (omega arith) on-right,
+              )
 
-        pub on-its-right :
-            (after : List ℕ) (answer : Executed)
-            → ((q : Pair) → kindOf (n .kind) ≡ pairs q
-            → Turns room more right (besideLeft q (chartIn room (n .a)) (a .line)) after answer)
-            → Follows before used (followsAt place) k after answer
-        on-its-right after answer turns =
-            let (q, is) = three-to-six-are-pairs (n .kind) low high in
-            let (l, l-there) = left-lower r low high in
-            let (b, b-there) = right-there in
-            let keeps : Kept used before room
-            = kept-then used used before middle room (omega arith) (on-left .1) keeps-right in
-            let same-left : chartIn room (n .a) ≡ chartIn before (n .a)
-            = kept-chart used before room keeps (n .a) (omega arith) (l-there .inside) in
-            let same-right : chartIn middle (n .b) ≡ chartIn before (n .b)
-            = kept-chart used before middle (on-left .1) (n .b) (omega arith) (b-there .inside) in
-            let turned : Follows middle used (besideLeft q (chartIn before (n .a)) (a .line) (followsAt (n .b))) more after answer
-            = subst (λ c. Follows middle used (besideLeft q (chartIn before (n .a)) (a .line) (follows c a)) more after answer) same-right
-            (subst (λ c. Follows middle used (besideLeft q c (a .line) (follows (chartIn middle (n .b)) a)) more after answer) same-left
-            (turns q is middle used (follows (chartIn middle (n .b)) a) middle-table on-right)) in
-            subst (λ xs. Follows before used xs k after answer) (sym (follows-there q is))
-            (in-the-second before used (map (besideRight q (chartIn before (n .b))) (followsAt (n .a))) k
-            (besideLeft q (chartIn before (n .a)) (a .line) (followsAt (n .b))) middle after more answer (table .counted)
-            (changed-missing before used (followsAt (n .a)) k (besideRight q (chartIn before (n .b))) middle more on-left)
-            turned)
+          pub on-its-right :
+              (after : List ℕ) (answer : Executed)
+              → ((q : Pair) → kindOf (n .kind) ≡ pairs q
+              → Turns room more right (besideLeft q (chartIn room (n .a)) (a .line)) after answer)
+              → Follows before used (followsAt place) k after answer
+          on-its-right after answer turns =
+              let (q, is) = three-to-six-are-pairs (n .kind) low high in
+              let (l, l-there) = left-lower r low high in
+              let (b, b-there) = right-there in
+              let keeps : Kept used before room
+              = kept-then used used before middle room (omega arith) (on-left .1) keeps-right in
+              let same-left : chartIn room (n .a) ≡ chartIn before (n .a)
+              = kept-chart used before room keeps (n .a) (omega arith) (l-there .inside) in
+              let same-right : chartIn middle (n .b) ≡ chartIn before (n .b)
+              = kept-chart used before middle (on-left .1) (n .b) (omega arith) (b-there .inside) in
+              let turned : Follows middle used (besideLeft q (chartIn before (n .a)) (a .line) (followsAt (n .b))) more after answer
+              = subst (λ c. Follows middle used (besideLeft q (chartIn before (n .a)) (a .line) (follows c a)) more
+              after answer) same-right
+              (subst (λ c. Follows middle used (besideLeft q c (a .line) (follows (chartIn middle (n .b)) a)) more after
+              answer) same-left
+              (turns q is middle used (follows (chartIn middle (n .b)) a) middle-table on-right)) in
+              subst (λ xs. Follows before used xs k after answer) (sym (follows-there q is))
+              (in-the-second before used (map (besideRight q (chartIn before (n .b))) (followsAt (n .a))) k
+              (besideLeft q (chartIn before (n .a)) (a .line) (followsAt (n .b))) middle after more answer
+              (table .counted)
+              (changed-missing before used (followsAt (n .a)) k (besideRight q (chartIn before (n .b))) middle more
+              on-left)
+              turned)
 
   -- A loop.
   module _ (low : 7 ≤ n .kind) (high : n .kind ≤ 10) where
@@ -207,34 +216,36 @@ module _ (work : Working) (k : ℕ) (a : Action) where
     no-round middle more on-body =
         let (l, is, whole) = loop-here r low high in
         subst (λ xs. Follows before used xs k middle (Missing more)) (sym (rounds-there l whole))
-        (changed-missing before used (followsAt (n .a)) k (afterRound l (chartIn before (n .a)) (a .line)) middle more on-body)
+        (changed-missing before used (followsAt (n .a)) k (afterRound l (chartIn before (n .a)) (a .line)) middle more
+        on-body)
 
-    module _ (middle : List ℕ) (x : Root) (on-body : Follows before used (followsAt (n .a)) k middle (FollowUp x)) where
-      built : Builds before used (getD (followsAt (n .a)) k newEmpty) middle x
-      built = on-body .1
+    module _ (middle : List ℕ) (x : Root) (on-body : Follows before used (followsAt (n .a)) k middle (FollowUp x))
+      where
+        built : Builds before used (getD (followsAt (n .a)) k newEmpty) middle x
+        built = on-body .1
 
-      pub asks-to-go-round : Held middle x × Rooted middle place × place < x .used
-      asks-to-go-round =
-          let more : used ≤ x .used = builds-more built (table .counted) in
-          let inside : place < length middle = omega (arith, r .root .inside, built .kept .long) in
-          (built .held, table-rooted middle (x .used) place (built .held .table) (omega arith) inside, omega arith)
+        pub asks-to-go-round : Held middle x × Rooted middle place × place < x .used
+        asks-to-go-round =
+            let more : used ≤ x .used = builds-more built (table .counted) in
+            let inside : place < length middle = omega (arith, r .root .inside, built .kept .long) in
+            (built .held, table-rooted middle (x .used) place (built .held .table) (omega arith) inside, omega arith)
 
-      pub one-round :
-          (after : List ℕ) (y : Root)
-          → ((l : Loop) → kindOf (nodeIn middle place .kind) ≡ loops l
-          → Carries middle x (afterRound l (chartIn middle (nodeIn middle place .a)) (a .line)) after y)
-          → Follows before used (followsAt place) k after (FollowUp y)
-      one-round after y carries =
-          let (l, is, whole) = loop-here r low high in
-          let (b, there) = body-lower r low high in
-          let node : nodeIn middle place ≡ n = kept-node used before middle (built .kept) place below ∙ sym (r .here) in
-          let same : chartIn middle (nodeIn middle place .a) ≡ chartIn before (n .a)
-          = ap (λ m. chartIn middle (m .a)) node
-          ∙ kept-chart used before middle (built .kept) (n .a) (omega arith) (there .inside) in
-          let m = getD (followsAt (n .a)) k newEmpty in
-          let carried : Builds before used (afterRound l (chartIn before (n .a)) (a .line) m) after y
-          = subst (λ c. Builds before used (afterRound l c (a .line) m) after y) same
-          (carries l (ap (λ m. kindOf (m .kind)) node ∙ is) before used m table built) in
-          subst (λ xs. Follows before used xs k after (FollowUp y)) (sym (rounds-there l whole))
-          (changed-follow-up before used (followsAt (n .a)) k (afterRound l (chartIn before (n .a)) (a .line)) after y
-          (on-body .0) carried)
+        pub one-round :
+            (after : List ℕ) (y : Root)
+            → ((l : Loop) → kindOf (nodeIn middle place .kind) ≡ loops l
+            → Carries middle x (afterRound l (chartIn middle (nodeIn middle place .a)) (a .line)) after y)
+            → Follows before used (followsAt place) k after (FollowUp y)
+        one-round after y carries =
+            let (l, is, whole) = loop-here r low high in
+            let (b, there) = body-lower r low high in
+            let node : nodeIn middle place ≡ n = kept-node used before middle (built .kept) place below ∙ sym (r .here) in
+            let same : chartIn middle (nodeIn middle place .a) ≡ chartIn before (n .a)
+            = ap (λ m. chartIn middle (m .a)) node
+            ∙ kept-chart used before middle (built .kept) (n .a) (omega arith) (there .inside) in
+            let m = getD (followsAt (n .a)) k newEmpty in
+            let carried : Builds before used (afterRound l (chartIn before (n .a)) (a .line) m) after y
+            = subst (λ c. Builds before used (afterRound l c (a .line) m) after y) same
+            (carries l (ap (λ m. kindOf (m .kind)) node ∙ is) before used m table built) in
+            subst (λ xs. Follows before used xs k after (FollowUp y)) (sym (rounds-there l whole))
+            (changed-follow-up before used (followsAt (n .a)) k (afterRound l (chartIn before (n .a)) (a .line)) after y
+            (on-body .0) carried)

@@ -1,13 +1,11 @@
 -- Executing in a loop: the round that was begun, before the loop itself; and of a weak loop, before both, the loop
 -- pruned.
 -- Assumes nothing.
-use Prim.Native.Nat.{ℕ, suc, _<_, _≤_}
-use mathlib.Core.Bool.{true, false}
+use Prim.Native.Nat.{ℕ, _<_, _≤_}
 use mathlib.Core.List.{List}
 use mathlib.Core.Logic.{_≢_}
 use mathlib.Core.Path.{_≡_, refl, ap, sym, subst, _∙_}
 use native.Mathlib.Omega.{arith}
-use lib.Dec.{eqb}
 use borrow.Author.Tests.{eq-eqb, ne-eqb}
 use lib.ListN.{length}
 use Rattle.chart.specs.Chart.{Chart, Loop}
@@ -34,7 +32,8 @@ use Rattle.pruning.proofs.Left.{prunes-table, loop-pruned}
 use Rattle.follow.specs.Passing.{orderBetween, Carries}
 
 -- The kind of the pair between the rounds of a loop.
-pub order-between : (kind : ℕ) (l : Loop) → kindOf kind ≡ loops l → kindOf (orderBetween kind) ≡ pairs (composed (between l))
+pub order-between : (kind : ℕ) (l : Loop) → kindOf kind ≡ loops l
+    → kindOf (orderBetween kind) ≡ pairs (composed (between l))
 order-between kind l e = by l (kind-has-its-number kind (loops l) e tt)
   where
     by : (l : Loop) → kind ≡ numberOf (loops l) → kindOf (orderBetween kind) ≡ pairs (composed (between l))
@@ -79,10 +78,12 @@ module _ (room : List ℕ) (place kind : ℕ) (x : Root) (l : Loop) (b : Chart) 
   round-of-a-weak-loop d nine after front pruned before used m start built =
       let whole = pair-builds-backward (round-begun before used m start built) (composed seq) 4 (start .counted)
       seq-is-four pruned in
-      subst (λ n. Builds before used n (added after (front .used) (record { kind = 4; a = front .place; b = x .used }))
+      subst (λ n. Builds before used n (added after (front .used)
+      (record { kind = 4; a = front .place; b = x .used }))
       (rootAt after (front .used))) (sym (by l (sym (one-loop kind 9 (each seq) l nine weak-is-nine is)))) whole
     where
-      by : (k : Loop) → k ≡ each seq → {m : Made} → afterRound k b d m ≡ newPair seq (prune (loop k b) d) (begun k b m)
+      by : (k : Loop) → k ≡ each seq → {m : Made}
+          → afterRound k b d m ≡ newPair seq (prune (loop k b) d) (begun k b m)
       by k e {m} = rw e
 
 -- At a place, with a part x that its body became.
@@ -106,7 +107,8 @@ module _ (r : Reading) (d : ℕ) (x : Root) (held : Held (r .room) x) (below : r
   body = chartIn room (node .a)
 
   pub at-another-loop :
-      node .kind ≢ 9 → (l : Loop) → kindOf (node .kind) ≡ loops l → Carries room x (afterRound l body d) begunIn begunAt
+      node .kind ≢ 9 → (l : Loop) → kindOf (node .kind) ≡ loops l → Carries room x (afterRound l body d) begunIn
+      begunAt
   at-another-loop other l is =
       round-of-another-loop room place (node .kind) x l body is (loop-of-that-kind r l is)
       (held .table) below d other
@@ -120,7 +122,8 @@ module _ (r : Reading) (d : ℕ) (x : Root) (held : Held (r .room) x) (below : r
     whole-round =
         round-begun room place (node .kind) x (each seq) body weak
         (loop-of-that-kind r (each seq) weak) (held .table) below room (x .used)
-        (kept (chartIn room (x .place))) (held .table) (kept-builds room (x .used) (x .place) (held .table) (held .below))
+        (kept (chartIn room (x .place))) (held .table)
+        (kept-builds room (x .used) (x .place) (held .table) (held .below))
 
     body-there : (node .a < place) × Rooted room (node .a)
     body-there = body-lower r (omega arith) (omega arith)
@@ -133,10 +136,12 @@ module _ (r : Reading) (d : ℕ) (x : Root) (held : Held (r .room) x) (below : r
         let inside : node .a < length begunIn = omega (arith, there .inside, whole-round .kept .long) in
         (table, table-rooted begunIn (begunAt .used) (node .a) table (omega arith) inside, omega arith)
 
-    module _ (pruned : List ℕ) (left : Pruned) (on-body : Prunes begunIn (begunAt .used) (chartIn begunIn (node .a)) d pruned left) where
+    module _ (pruned : List ℕ) (left : Pruned)
+        (on-body : Prunes begunIn (begunAt .used) (chartIn begunIn (node .a)) d pruned left) where
       pub pruned-table : Table pruned (above left (begunAt .used))
       pruned-table =
-          prunes-table begunIn (begunAt .used) (chartIn begunIn (node .a)) d pruned left (whole-round .held .table) on-body
+          prunes-table begunIn (begunAt .used) (chartIn begunIn (node .a)) d pruned left (whole-round .held .table)
+          on-body
 
       abbrev frontIn : List ℕ
       frontIn = loopIn pruned (node .kind) left (begunAt .used)

@@ -1,7 +1,7 @@
--- Follow-ups of a pair by the follow-ups of its sides, and what it means that code carries a part or an answer on. These
--- are working definitions: proofs/ shows that they make up `follows`.
+-- Follow-ups of a pair by the follow-ups of its sides, and what it means that code carries a part or an answer on.
+-- These are working definitions: proofs/Pairing.antt shows that they make up `follows`.
 -- Assumes nothing.
-use Prim.Native.Nat.{ℕ, _<_, _≤_}
+use Prim.Native.Nat.{ℕ, _<_}
 use mathlib.Core.Bool.{Bool, false, cond}
 use mathlib.Core.List.{List}
 use lib.Dec.{eqb}

@@ -1,9 +1,8 @@
-// Executing an action (01, "How a log is executed"): the occurrences of an action in a chart, from left to right, and the
-// follow-up of one of them, built in the room above the places in use.
+// Executing an action (01, "How a log is executed"): its occurrences in a chart, from left to right, and the follow-up of
+// one of them, built in the room above the places in use.
 ghost use mathlib.Core.Path.{_≡_};
-ghost use Prim.Native.Nat.{ℕ, _<_, _≤_};
+ghost use Prim.Native.Nat.{ℕ, _<_};
 ghost use lib.Dec.{eqb};
-ghost use lib.ListN.{length};
 ghost use Rattle.chart.specs.Action.{same};
 ghost use Rattle.chart.specs.Chart.Order.{strict, seq, par};
 ghost use Rattle.chart.specs.Chart.{Loop};
@@ -61,7 +60,8 @@ fn on_left(room: &mut [u32], node: Node, x: Root) -> Root
     requires { ⌜ Table (now room) (x .used) × node .b < x .used ⌝ }
     ensures { λ r.
         ⌜ ((q : Pair) → kindOf (node .kind) ≡ pairs q
-        → Carries (now (room .entry)) x (besideRight q (chartIn (now (room .entry)) (node .b))) (now (room .exit)) r) ⌝ }
+        → Carries (now (room .entry)) x (besideRight q (chartIn (now (room .entry)) (node .b)))
+        (now (room .exit)) r) ⌝ }
 {
     let kind = node.kind;
     if kind == Node::ALT {
@@ -83,12 +83,14 @@ fn right_of_strict(room: &[u32], left: u32, k: u32, right: Executed) -> Executed
     requires { ⌜ Rooted (now room) left ⌝ }
     ensures { λ r.
         ⌜ ((d : ℕ)
-        → Turns (now (room .entry)) k right (onRight strict (chartIn (now (room .entry)) left) d) (now (room .entry)) r) ⌝ }
+        → Turns (now (room .entry)) k right (onRight strict (chartIn (now (room .entry)) left) d)
+        (now (room .entry)) r) ⌝ }
 {
     if pruning::terminates(room, left) {
-        return right;
+        right
+    } else {
+        Executed::Missing(k)
     }
-    Executed::Missing(k)
 }
 
 // The right side of a seq: only if the left evades the lifeline, and the left is pruned by it. With no pruned part the
@@ -96,7 +98,8 @@ fn right_of_strict(room: &[u32], left: u32, k: u32, right: Executed) -> Executed
 fn right_of_seq(room: &mut [u32], left: u32, lifeline: u32, k: u32, right: Executed) -> Executed
     requires { ⌜ Rooted (now room) left × Beside (now room) left right ⌝ }
     ensures { λ r.
-        ⌜ Turns (now (room .entry)) k right (onRight seq (chartIn (now (room .entry)) left) lifeline) (now (room .exit)) r ⌝ }
+        ⌜ Turns (now (room .entry)) k right (onRight seq (chartIn (now (room .entry)) left) lifeline)
+        (now (room .exit)) r ⌝ }
 {
     let Executed::FollowUp(x) = right else {
         if pruning::evades(room, left, lifeline) {
@@ -105,17 +108,17 @@ fn right_of_seq(room: &mut [u32], left: u32, lifeline: u32, k: u32, right: Execu
         return Executed::Missing(k);
     };
     let pruned = pruning::prune(room, left, lifeline, x.used);
-    let Pruned::Part(front) = pruned else {
+    let Pruned::Part(part) = pruned else {
         return Executed::Missing(k);
     };
     Executed::FollowUp(places::add(
         room,
         Node {
             kind: Node::SEQ,
-            a: front.place,
+            a: part.place,
             b: x.place,
         },
-        front.used,
+        part.used,
     ))
 }
 
@@ -124,7 +127,8 @@ fn right_of_par(room: &mut [u32], left: u32, right: Executed) -> Executed
     requires { ⌜ Beside (now room) left right ⌝ }
     ensures { λ r.
         ⌜ ((k d : ℕ)
-        → Turns (now (room .entry)) k right (onRight par (chartIn (now (room .entry)) left) d) (now (room .exit)) r) ⌝ }
+        → Turns (now (room .entry)) k right (onRight par (chartIn (now (room .entry)) left) d)
+        (now (room .exit)) r) ⌝ }
 {
     let Executed::FollowUp(x) = right else {
         return right;
@@ -189,7 +193,8 @@ fn after_round(room: &mut [u32], place: u32, lifeline: u32, x: Root) -> Root
     ensures { λ r.
         ⌜ ((l : Loop) → kindOf (nodeIn (now (room .entry)) place .kind) ≡ loops l
         → Carries (now (room .entry)) x
-        (afterRound l (chartIn (now (room .entry)) (nodeIn (now (room .entry)) place .a)) lifeline) (now (room .exit)) r) ⌝ }
+        (afterRound l (chartIn (now (room .entry)) (nodeIn (now (room .entry)) place .a)) lifeline)
+        (now (room .exit)) r) ⌝ }
 {
     let node = places::read(room, place);
     let kind = node.kind;

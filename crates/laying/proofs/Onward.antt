@@ -1,7 +1,7 @@
 -- What a caller has after laying: where the whole chart was laid its places are a table, the card's chart stands at its
 -- root, and as many places are in use as the chart has nodes; and it is laid exactly if they do not exceed the room.
 -- Assumes nothing.
-use Prim.Native.Nat.{ℕ, suc, _-_, _<_, _≤_}
+use Prim.Native.Nat.{ℕ, _-_, _<_, _≤_}
 use mathlib.Core.Bool.{Bool, true, false, cond}
 use mathlib.Core.List.{List}
 use mathlib.Core.Path.{_≡_, refl, ap, sym, subst, _∙_}

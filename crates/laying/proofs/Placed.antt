@@ -2,7 +2,7 @@
 -- chart at its root is the card's chart.
 -- Assumes nothing.
 use Prim.Native.Nat.{ℕ, zero, suc, _+_, _-_, _<_, _≤_}
-use mathlib.Core.Bool.{Bool, true, false, _&&_}
+use mathlib.Core.Bool.{true}
 use mathlib.Core.List.{List, [], _∷_, _++_, map, map-append}
 use mathlib.Core.Path.{_≡_, refl, ap, sym, subst, _∙_}
 use native.Mathlib.Decide.{ℕ-discrete}
@@ -11,21 +11,19 @@ use lib.Dec.{T, eqb, ltb}
 use borrow.Author.Tests.{eqb-true, ltb-true, lt-ltb, le-ltb}
 use lib.ListN.{length, getD, drop, set, length-append, length-map, length-drop, List·getD-map, List·getD-append}
 use lib.Seq.{set-at, drop-cons, append-snoc, getD-at}
-use Rattle.chart.specs.Chart.{Chart}
 use Rattle.chart.specs.Chart.Chart.{empty}
 use Rattle.chart.proofs.Tests.{both-true}
 use Rattle.node.specs.declared.Node.{Node}
 use Rattle.node.specs.Kind.{Kind, kindOf}
 use Rattle.node.specs.Kind.Kind.{nothing, action, pairs, loops, unknown}
 use Rattle.node.specs.Place.{nodeOf, wordOf, Fitting}
-use Rattle.node.specs.Row.{charts, chart, children, Below}
+use Rattle.node.specs.Row.{charts, children, Below}
 use Rattle.node.proofs.Packing.{unpacks-to-the-same-node}
 use Rattle.node.proofs.Numbering.{Known, known-kinds}
 use Rattle.node.proofs.Rows.{charts-keep}
 use Rattle.card.specs.Parts.{nodesOf, lifelinesOf, messagesOf}
-use Rattle.card.specs.Nodes.{countOf, nodeAt, rowTo, cardChart}
+use Rattle.card.specs.Nodes.{nodeAt, rowTo, cardChart}
 use Rattle.card.specs.Findings.{inOrderAs}
-use Rattle.card.specs.Faultless.{Faultless}
 use Rattle.card.specs.Table.{Sound}
 use Rattle.card.proofs.Rows.{length-row}
 use Rattle.card.proofs.Relied.{few-lifelines, few-messages}
@@ -63,7 +61,8 @@ in-order-fits unknown lifelines messages i n e few-l few-m few h = absurd (subst
 row-words : (nodes : List ℕ) (n : ℕ) → length (map wordOf (rowTo nodes n)) ≡ n
 row-words nodes n = length-map (rowTo nodes n) wordOf ∙ length-row nodes n
 
-pub placed-length : (nodes : List ℕ) (n : ℕ) (room : List ℕ) → n ≤ length room → length (placed nodes n room) ≡ length room
+pub placed-length : (nodes : List ℕ) (n : ℕ) (room : List ℕ) → n ≤ length room
+    → length (placed nodes n room) ≡ length room
 placed-length nodes n room h =
     omega (arith, length-append (map wordOf (rowTo nodes n)) (drop n room), row-words nodes n, length-drop n room)
 
@@ -84,14 +83,13 @@ row-at : (nodes : List ℕ) (n p : ℕ) (d : Node) → p < n → getD (rowTo nod
 row-at nodes zero p d h = absurd (omega arith)
 row-at nodes (suc n) p d h = by (ℕ-discrete p n) (λ l. row-at nodes n p d l)
   where
-    row : List Node
-    row = rowTo nodes n
-
     by : Dec (p ≡ n) → (p < n → getD (rowTo nodes n) p d ≡ nodeAt nodes p)
         → getD (rowTo nodes n ++ (nodeAt nodes n ∷ [])) p d ≡ nodeAt nodes p
     by (yes e) ih =
         getD-at (rowTo nodes n) (nodeAt nodes n) [] d p (length-row nodes n ∙ sym e) ∙ ap (nodeAt nodes) (sym e)
-    by (no o) ih = List·getD-append (rowTo nodes n) (nodeAt nodes n ∷ []) d p (omega (arith, length-row nodes n)) ∙ ih (omega arith)
+    by (no o) ih =
+        List·getD-append (rowTo nodes n) (nodeAt nodes n ∷ []) d p (omega (arith, length-row nodes n)) ∙ ih
+        (omega arith)
 
 module _ (card : List ℕ) (sound : Sound card) where
   abbrev nodes : List ℕ
@@ -140,7 +138,8 @@ module _ (card : List ℕ) (sound : Sound card) where
       let row = rowTo nodes (taken card) in
       let rest = drop (taken card) room in
       let split : nodesIn (placed nodes (taken card) room) ≡ row ++ nodesIn rest
-      = map-append nodeOf (map wordOf row) rest ∙ ap (λ r. r ++ nodesIn rest) (row-read-back (taken card) (omega arith)) in
+      = map-append nodeOf (map wordOf row) rest ∙ ap (λ r. r ++ nodesIn rest)
+      (row-read-back (taken card) (omega arith)) in
       let long : length row ≡ taken card = length-row nodes (taken card) in
       ap (λ r. getD (charts r) (taken card - 1) empty) split
       ∙ charts-keep row (nodesIn rest) (taken card - 1) (omega (arith, sound→faultless card sound .some))

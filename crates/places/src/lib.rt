@@ -1,8 +1,7 @@
 // Places of a room, read and written. These functions alone touch its numbers.
 ghost use mathlib.Core.Path.{_≡_};
-ghost use mathlib.Core.List.{_++_, map};
-ghost use Prim.Native.Nat.{_<_, _≤_};
-ghost use lib.ListN.{length, drop};
+ghost use Prim.Native.Nat.{_<_};
+ghost use lib.ListN.{length};
 ghost use Rattle.room.specs.Room.{nodeIn, Table};
 ghost use Rattle.room.specs.Building.{added, rootAt};
 use node::Node;

@@ -1,18 +1,18 @@
 -- What is left of a pair and of a loop is what pruning leaves, by cases on what is left of their parts: the chart, and
 -- what it costs. A side that was pruned and is not wanted leaves only numbers above the places in use.
 -- Assumes nothing.
-use Prim.Native.Nat.{ℕ, suc, _<_, _≤_}
-use mathlib.Core.Bool.{Bool, true, false, not}
+use Prim.Native.Nat.{ℕ, _<_, _≤_}
+use mathlib.Core.Bool.{true, false, not}
 use mathlib.Core.Logic.{_≢_}
 use mathlib.Core.List.{List}
-use mathlib.Core.Path.{_≡_, refl, ap, sym, subst, _∙_}
+use mathlib.Core.Path.{_≡_, refl, ap, sym, _∙_}
 use native.Mathlib.Decide.{ℕ-discrete}
 use native.Mathlib.Omega.{arith}
 use lib.Dec.{eqb}
 use borrow.Author.Tests.{eq-eqb, ne-eqb}
 use lib.ListN.{length}
 use Rattle.chart.specs.Chart.{Chart, Order, Loop}
-use Rattle.chart.specs.Chart.Chart.{empty, act, alt, pair, loop}
+use Rattle.chart.specs.Chart.Chart.{empty, alt, pair, loop}
 use Rattle.chart.specs.Executing.{evades, prune}
 use Rattle.chart.specs.Executing.Made.{kept}
 use Rattle.node.specs.declared.Node.{Node}
@@ -23,7 +23,7 @@ use Rattle.node.proofs.Ranges.{six-is-the-choice}
 use Rattle.room.specs.declared.Root.{Root}
 use Rattle.room.specs.declared.Pruned.{Pruned}
 use Rattle.room.specs.declared.Pruned.the-variants.{Part, Nothing}
-use Rattle.room.specs.Room.{nodeIn, chartIn, Table, Rooted, Kept}
+use Rattle.room.specs.Room.{chartIn, Table, Rooted, Kept}
 use Rattle.room.specs.Building.{Builds, Prunes}
 use Rattle.room.proofs.Standing.{kept-self, kept-chart, kept-then, kept-table, table-less}
 use Rattle.room.proofs.Apart.{
@@ -91,7 +91,8 @@ empty-pruned room used place d table below e =
 -- Sides that are left, and sides of which nothing is left. With nothing left of the left side the right one is pruned
 -- from the same places on.
 module _ (before middle : List ℕ) (used d : ℕ) (l r : Chart) (table : Table before used) where
-  pub order-lost : (o : Order) → Prunes before used l d middle Nothing → Prunes before used (pair o l r) d middle Nothing
+  pub order-lost : (o : Order) → Prunes before used l d middle Nothing
+      → Prunes before used (pair o l r) d middle Nothing
   order-lost o (le, keeps) = (rw le, keeps)
 
   pub alt-by-its-right :
@@ -112,8 +113,11 @@ module _ (before middle : List ℕ) (used d : ℕ) (l r : Chart) (table : Table 
     order-pruned o e six (Part part) (le, lb) (re, rb) =
         (rw (le, re), pair-builds lb (composed o) kind (table .counted) e rb)
     order-pruned o e six Nothing (le, lb) (re, keeps) =
-        rw six
-        (rw (le, re), kept-then used (left .used) before middle room (builds-more lb (table .counted)) (lb .kept) keeps)
+        rw six (
+          rw (le, re),
+          kept-then used (left .used) before middle room (builds-more lb (table .counted)) (lb .kept)
+              keeps,
+        )
 
     pub alt-pruned :
         kind ≡ 6 → (right : Pruned) → Prunes before used l d middle (Part left)
@@ -132,7 +136,8 @@ pub loop-pruned :
     → (body : Pruned) → Prunes before used b d room body
     → Builds before used (prune (loop k b) d) (loopIn room kind body used) (loopOf room body used)
 unfolding prune
-loop-pruned before room used d b k kind table e (Part root) (be, bb) = rw be (loop-builds bb k kind (table .counted) e)
+loop-pruned before room used d b k kind table e (Part root) (be, bb) =
+    rw be (loop-builds bb k kind (table .counted) e)
 loop-pruned before room used d b k kind table e Nothing (be, keeps) =
     rw be
     (kept-then-builds (table .counted) keeps (empty-builds room used (kept-table used before room keeps table)))
@@ -217,11 +222,13 @@ module _ (work : Working) (d : ℕ) where
           let same : chartIn middle (n .b) ≡ chartIn before (n .b)
           = kept-chart used before middle (on-left .1) (n .b) (omega arith) (there .inside) in
           rw (alt-here r six)
-          (alt-by-its-right before middle used d (chartIn before (n .a)) (chartIn before (n .b)) table room right on-left
+          (alt-by-its-right before middle used d (chartIn before (n .a)) (chartIn before (n .b)) table room right
+          on-left
           (rw same at on-right))
 
     -- The left side is left, and the right one is pruned above it.
-    module _ (middle : List ℕ) (left : Root) (on-left : Prunes before used (chartIn before (n .a)) d middle (Part left)) where
+    module _ (middle : List ℕ) (left : Root)
+        (on-left : Prunes before used (chartIn before (n .a)) d middle (Part left)) where
       above-left : used ≤ left .used
       above-left = builds-more (on-left .1) (table .counted)
 
@@ -239,10 +246,12 @@ module _ (work : Working) (d : ℕ) where
           (on-right : Prunes middle (left .used) (chartIn middle (n .b)) d room right) where
         pub above-right : Table room (above right 0)
         above-right =
-            prunes-part-table middle (left .used) (chartIn middle (n .b)) d room right (on-left .1 .held .table) on-right
+            prunes-part-table middle (left .used) (chartIn middle (n .b)) d room right (on-left .1 .held .table)
+            on-right
 
         pub at-a-pair :
-            Prunes before used (chartIn before place) d (pairIn room (n .kind) left right) (pairOf room (n .kind) left right)
+            Prunes before used (chartIn before place) d (pairIn room (n .kind) left right)
+            (pairOf room (n .kind) left right)
         at-a-pair = by (ℕ-discrete (n .kind) 6)
           where
             same : chartIn middle (n .b) ≡ chartIn before (n .b)
@@ -255,7 +264,8 @@ module _ (work : Working) (d : ℕ) where
                 (pairOf room (n .kind) left right)
             by (yes six) =
                 rw (alt-here r six)
-                (alt-pruned before middle used d (chartIn before (n .a)) (chartIn before (n .b)) table room left (n .kind)
+                (alt-pruned before middle used d (chartIn before (n .a)) (chartIn before (n .b)) table room left
+                (n .kind)
                 six right on-left (rw same at on-right))
             by (no other) =
                 let (o, e, whole) = order-here r low (omega arith) in
@@ -267,11 +277,13 @@ module _ (work : Working) (d : ℕ) where
   asks-body low high = let (a, there) = body-lower r low high in (table, there, omega arith)
 
   pub above-body :
-      (room : List ℕ) (body : Pruned) → Prunes before used (chartIn before (n .a)) d room body → Table room (above body used)
+      (room : List ℕ) (body : Pruned) → Prunes before used (chartIn before (n .a)) d room body
+      → Table room (above body used)
   above-body room body on-body = prunes-table before used (chartIn before (n .a)) d room body table on-body
 
   pub at-a-loop :
-      (room : List ℕ) (body : Pruned) → 7 ≤ n .kind → n .kind ≤ 10 → Prunes before used (chartIn before (n .a)) d room body
+      (room : List ℕ) (body : Pruned) → 7 ≤ n .kind → n .kind ≤ 10
+      → Prunes before used (chartIn before (n .a)) d room body
       → Prunes before used (chartIn before place) d (loopIn room (n .kind) body used) (Part (loopOf room body used))
   at-a-loop room body low high on-body =
       let (k, e, whole) = loop-here r low high in

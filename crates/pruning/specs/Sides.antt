@@ -5,7 +5,6 @@ use Prim.Native.Nat.{ℕ}
 use mathlib.Core.Bool.{cond}
 use mathlib.Core.List.{List}
 use lib.Dec.{eqb}
-use Rattle.node.specs.declared.Node.{Node}
 use Rattle.room.specs.declared.Root.{Root}
 use Rattle.room.specs.declared.Pruned.{Pruned}
 use Rattle.room.specs.declared.Pruned.the-variants.{Part, Nothing}

@@ -2,32 +2,30 @@
 -- stands there; a pair, a loop and an empty are cases of it. Where the room is exceeded nothing is written, and the
 -- count stays one above the room's length.
 -- Assumes nothing.
-use Prim.Native.Nat.{ℕ, suc, _+_, _^_, min, _<_, _≤_}
-use mathlib.Core.Bool.{Bool}
-use mathlib.Core.List.{List, [], _∷_}
+use Prim.Native.Nat.{ℕ, suc, _+_, _<_, _≤_}
+use mathlib.Core.List.{List}
 use mathlib.Core.Path.{_≡_, refl, ap, sym, subst, _∙_}
-use native.Mathlib.Decide.{decLe, decLt, ℕ-discrete}
+use native.Mathlib.Decide.{ℕ-discrete}
 use native.Mathlib.Omega.{arith}
-use lib.ListN.{length, getD, set, length-set}
+use lib.ListN.{length, length-set}
 use lib.Seq.{getD-set-same, take-set-le, set-out}
-use Rattle.chart.specs.Chart.{Chart, Loop}
-use Rattle.chart.specs.Chart.Chart.{empty}
+use Rattle.chart.specs.Chart.{Loop}
 use Rattle.chart.specs.Executing.{Made, chartOf, costOf}
 use Rattle.chart.specs.Executing.Made.{kept, newEmpty, newAlt, newPair, newLoop}
 use Rattle.node.specs.declared.Node.{Node}
-use Rattle.node.specs.Kind.{Kind, kindOf, Pair, paired}
+use Rattle.node.specs.Kind.{kindOf, Pair, paired}
 use Rattle.node.specs.Kind.Pair.{composed, choice}
-use Rattle.node.specs.Kind.Kind.{nothing, action, pairs, loops, unknown}
+use Rattle.node.specs.Kind.Kind.{pairs, loops}
 use Rattle.node.specs.Place.{nodeOf, wordOf, Fitting}
-use Rattle.node.specs.Row.{charts, stands, standsAs, children, Below}
+use Rattle.node.specs.Row.{charts, stands, children, Below}
 use Rattle.node.proofs.Packing.{unpacks-to-the-same-node}
 use Rattle.node.proofs.Ranges.{zero-is-nothing}
 use Rattle.node.proofs.Numbering.{Known, known-kinds}
 use Rattle.node.proofs.Rows.{stands-alike}
 use Rattle.room.specs.declared.Root.{Root}
 use Rattle.room.specs.Room.{nodesIn, nodeIn, chartIn, Table, Kept}
-use Rattle.room.specs.Building.{counted, added, rootAt, Held, Builds}
-use Rattle.room.proofs.Standing.{chart-at, kept-chart, kept-node, kept-table, kept-self, kept-then, table-less}
+use Rattle.room.specs.Building.{counted, added, rootAt, Builds}
+use Rattle.room.proofs.Standing.{chart-at, kept-chart, kept-table, kept-self, kept-then}
 
 -- Adding changes nothing below.
 pub adding-keeps : (room : List ℕ) (used : ℕ) (n : Node) → Kept used room (added room used n)
@@ -54,7 +52,8 @@ module _ (room : List ℕ) (used : ℕ) (n : Node) (inside : used < length room)
 
 -- A table with one node more is a table.
 added-table :
-    (room : List ℕ) (used : ℕ) (n : Node) → Table room used → (used < length room → Fitting n × Below used (children n))
+    (room : List ℕ) (used : ℕ) (n : Node) → Table room used
+    → (used < length room → Fitting n × Below used (children n))
     → Table (added room used n) (counted (length room) (used + 1))
 added-table room used n table ok =
     let long = length-set room used (wordOf n) in
@@ -118,7 +117,8 @@ newPaired-chart : (q : Pair) (m n : Made) → chartOf (newPaired q m n) ≡ pair
 newPaired-chart (composed o) m n = refl
 newPaired-chart choice m n = refl
 
-module _ {before : List ℕ} {start : ℕ} {m : Made} {middle : List ℕ} {left : Root} (ml : Builds before start m middle left) where
+module _ {before : List ℕ} {start : ℕ} {m : Made} {middle : List ℕ} {left : Root}
+    (ml : Builds before start m middle left) where
   -- Places in use do not grow fewer.
   pub builds-more : start ≤ suc (length before) → start ≤ left .used
   builds-more h = omega (arith, ml .cost)
@@ -127,12 +127,14 @@ module _ {before : List ℕ} {start : ℕ} {m : Made} {middle : List ℕ} {left 
   module _ {n : Made} {room : List ℕ} {right : Root} (q : Pair) (kind : ℕ) (begun : start ≤ suc (length before))
       (is : kindOf kind ≡ pairs q) (nr : Builds middle (left .used) n room right) where
     first-below : right .used < length room → left .place < right .used
-    first-below h = omega (arith, ml .held .below (omega (arith, nr .cost, nr .kept .long)), nr .cost, ml .held .table .counted)
+    first-below h =
+        omega (arith, ml .held .below (omega (arith, nr .cost, nr .kept .long)), nr .cost, ml .held .table .counted)
 
     first-chart : right .used < length room → chartIn room (left .place) ≡ chartOf m
     first-chart h =
         let inside : left .used ≤ length middle = omega (arith, nr .cost, nr .kept .long) in
-        kept-chart (left .used) middle room (nr .kept) (left .place) (ml .held .below inside) (omega (arith, ml .held .below inside))
+        kept-chart (left .used) middle room (nr .kept) (left .place) (ml .held .below inside)
+        (omega (arith, ml .held .below inside))
         ∙ ml .stands inside
 
     both-build :
@@ -164,14 +166,16 @@ module _ {before : List ℕ} {start : ℕ} {m : Made} {middle : List ℕ} {left 
 
     pub pair-builds :
         Builds before start (newPaired q m n)
-        (added room (right .used) (record { kind = kind; a = left .place; b = right .place })) (rootAt room (right .used))
+        (added room (right .used) (record { kind = kind; a = left .place; b = right .place }))
+        (rootAt room (right .used))
     pair-builds =
         both-build (left .place) (right .place) m n refl first-below (λ h. nr .held .below (omega arith)) first-chart
         (λ h. nr .stands (omega arith))
 
     pub pair-builds-backward :
         Builds before start (newPaired q n m)
-        (added room (right .used) (record { kind = kind; a = right .place; b = left .place })) (rootAt room (right .used))
+        (added room (right .used) (record { kind = kind; a = right .place; b = left .place }))
+        (rootAt room (right .used))
     pair-builds-backward =
         both-build (right .place) (left .place) n m (omega arith) (λ h. nr .held .below (omega arith)) first-below
         (λ h. nr .stands (omega arith)) first-chart
@@ -184,7 +188,8 @@ module _ {before : List ℕ} {start : ℕ} {m : Made} {middle : List ℕ} {left 
   loop-builds k kind begun e =
       let node : Node = record { kind = kind; a = left .place; b = 0 } in
       let few = ml .held .table .usable in
-      adds before start (costOf m) middle (left .used) node (newLoop k m) (ml .kept) (builds-more begun) (ml .held .table)
+      adds before start (costOf m) middle (left .used) node (newLoop k m) (ml .kept) (builds-more begun)
+      (ml .held .table)
       (ml .cost) refl
       (λ h. (
         record {
@@ -208,13 +213,15 @@ empty-builds room used table =
     (λ h. rw is)
 
 -- The root of a node that was added, in a room that has a place left and in one that is full.
-pub root-inside : (room : List ℕ) (used : ℕ) → used < length room → rootAt room used ≡ record { place = used; used = used + 1 }
+pub root-inside : (room : List ℕ) (used : ℕ) → used < length room
+    → rootAt room used ≡ record { place = used; used = used + 1 }
 root-inside room used h =
     let same : counted (length room) (used + 1) ≡ used + 1 = omega arith in
     rw same
 
 pub root-beyond :
-    (room : List ℕ) (used : ℕ) → length room ≤ used → rootAt room used ≡ record { place = used; used = length room + 1 }
+    (room : List ℕ) (used : ℕ) → length room ≤ used
+    → rootAt room used ≡ record { place = used; used = length room + 1 }
 root-beyond room used h =
     let same : counted (length room) (used + 1) ≡ length room + 1 = omega arith in
     rw same
@@ -237,7 +244,8 @@ builds-kept {before} {middle} {room} {used} {m} {root} b more keeps =
           };
       stands = λ h.
           let h = rw (keeps .long) at h in
-          kept-chart (root .used) middle room keeps (root .place) (b .held .below h) (omega (arith, b .held .below h)) ∙ b .stands h;
+          kept-chart (root .used) middle room keeps (root .place) (b .held .below h) (omega (arith, b .held .below h))
+          ∙ b .stands h;
     }
 
 pub kept-then-builds :

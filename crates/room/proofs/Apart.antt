@@ -3,28 +3,18 @@
 -- Assumes nothing.
 use Prim.Native.Nat.{ℕ, suc, _≤_, _<_}
 use mathlib.Core.Bool.{Bool}
-use mathlib.Core.List.{List, [], _∷_}
-use mathlib.Core.Path.{_≡_, refl, ap, sym, subst, _∙_}
+use mathlib.Core.List.{List}
+use mathlib.Core.Path.{_≡_, ap, sym, subst, _∙_}
 use native.Mathlib.Omega.{arith}
 use lib.ListN.{length}
-use Rattle.chart.specs.Chart.{Chart, Order, Loop}
+use Rattle.chart.specs.Chart.{Order, Loop}
 use Rattle.chart.specs.Chart.Chart.{empty, act, alt, pair, loop}
 use Rattle.node.specs.declared.Node.{Node}
 use Rattle.node.specs.Kind.{Kind, kindOf, Pair, paired}
 use Rattle.node.specs.Kind.Pair.{composed, choice}
 use Rattle.node.specs.Kind.Kind.{nothing, action, pairs, loops, unknown}
 use Rattle.node.specs.Row.{charts, stands, standsAs, children, Below}
-use Rattle.node.proofs.Ranges.{
-  zero-is-nothing,
-  one-and-two-are-actions,
-  three-to-five-are-orders,
-  six-is-the-choice,
-  three-to-six-are-pairs,
-  seven-to-ten-are-loops,
-  above-ten-is-unknown,
-  children-of-a-pair,
-  children-of-a-loop,
-}
+use Rattle.node.proofs.Ranges.{zero-is-nothing, one-and-two-are-actions, three-to-five-are-orders, six-is-the-choice, seven-to-ten-are-loops, above-ten-is-unknown, children-of-a-pair, children-of-a-loop}
 use Rattle.room.specs.Room.{nodesIn, nodeIn, chartIn, Table, Rooted, Kept}
 use Rattle.room.proofs.Standing.{chart-at, kept-table, table-less}
 
@@ -39,7 +29,8 @@ pub kept-rooted :
     (used : ℕ) (before after : List ℕ) (place : ℕ) → Kept used before after → Table before used → Rooted before place
     → place < used → Rooted after place
 kept-rooted used before after place kept table root h =
-    table-rooted after used place (kept-table used before after kept table) h (omega (arith, root .inside, kept .long))
+    table-rooted after used place (kept-table used before after kept table) h
+    (omega (arith, root .inside, kept .long))
 
 -- A part at a place, and its node as it was read.
 pub record Reading : Type 0 where
@@ -72,7 +63,9 @@ module _ (r : Reading) where
       ∙ ap (stands (charts (nodesIn room))) (sym (r .here)) ∙ ap (λ m. standsAs m (charts (nodesIn room)) n) e
 
   lower : Below place (children n)
-  lower = subst (λ m. Below place (children m)) (sym (r .here)) (r .root .table .lower place (omega arith) (r .root .inside))
+  lower =
+      subst (λ m. Below place (children m)) (sym (r .here))
+      (r .root .table .lower place (omega arith) (r .root .inside))
 
   rooted-below : (p : ℕ) → p < place → Rooted room p
   rooted-below p h = table-rooted room (suc place) p (r .root .table) (omega arith) (omega (arith, r .root .inside))
@@ -84,16 +77,19 @@ module _ (r : Reading) where
       1 ≤ n .kind → n .kind ≤ 2
       → (receives : Bool) × (kindOf (n .kind) ≡ action receives)
       × (chartIn room place ≡ act (record { line = n .a; receives = receives; message = n .b }))
-  action-here low high = let (receives, e) = one-and-two-are-actions (n .kind) low high in (receives, e, chart-as (action receives) e)
+  action-here low high =
+      let (receives, e) = one-and-two-are-actions (n .kind) low high in (receives, e, chart-as (action receives) e)
 
   pub order-here :
       3 ≤ n .kind → n .kind ≤ 5
       → (o : Order) × (kindOf (n .kind) ≡ pairs (composed o))
       × (chartIn room place ≡ pair o (chartIn room (n .a)) (chartIn room (n .b)))
-  order-here low high = let (o, e) = three-to-five-are-orders (n .kind) low high in (o, e, chart-as (pairs (composed o)) e)
+  order-here low high =
+      let (o, e) = three-to-five-are-orders (n .kind) low high in (o, e, chart-as (pairs (composed o)) e)
 
   pub pair-here :
-      (q : Pair) → kindOf (n .kind) ≡ pairs q → chartIn room place ≡ paired q (chartIn room (n .a)) (chartIn room (n .b))
+      (q : Pair) → kindOf (n .kind) ≡ pairs q
+      → chartIn room place ≡ paired q (chartIn room (n .a)) (chartIn room (n .b))
   pair-here q e = chart-as (pairs q) e
 
   pub alt-here : n .kind ≡ 6 → chartIn room place ≡ alt (chartIn room (n .a)) (chartIn room (n .b))

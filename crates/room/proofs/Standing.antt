@@ -1,8 +1,8 @@
 -- What stands in a room: the chart at a place is the chart of its node, and what is kept keeps its charts. Both come
 -- from the laws of rows: what stands at a place is told by the nodes up to it.
 -- Assumes nothing.
-use Prim.Native.Nat.{ℕ, _+_, min, _<_, _≤_}
-use mathlib.Core.List.{List, [], _∷_, _++_, map, map-append}
+use Prim.Native.Nat.{ℕ, _+_, _<_, _≤_}
+use mathlib.Core.List.{List, _++_, map-append}
 use mathlib.Core.Path.{_≡_, refl, ap, sym, subst, _∙_}
 use native.Mathlib.Omega.{arith}
 use lib.ListN.{length, getD, take, drop, take-append-drop, length-take, length-map, List·getD-map}
@@ -40,7 +40,8 @@ module _ (used : ℕ) (before after : List ℕ) (kept : Kept used before after) 
 
   pub kept-node : (p : ℕ) → p < used → nodeIn after p ≡ nodeIn before p
   kept-node p h =
-      ap nodeOf (sym (getD-take used after p 0 h) ∙ ap (λ row. getD row p 0) (kept .same) ∙ getD-take used before p 0 h)
+      ap nodeOf (sym (getD-take used after p 0 h) ∙ ap (λ row. getD row p 0) (kept .same) ∙ getD-take used before p 0
+      h)
 
   -- What is kept stays a table.
   pub kept-table : Table before used → Table after used

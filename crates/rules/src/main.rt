@@ -1,6 +1,6 @@
-// The execution rules, run: charts of 01's table and of its "Errors a reviewer will look for", each with the follow-ups of
-// some actions. A line has the chart, the places in use with it, whether it terminates and which of lifelines 0 and 1
-// it evades.
+// The execution rules, run: charts of 01's table and of its "Errors a reviewer will look for", each with the follow-ups
+// of some actions. A line has the chart, the places in use with it, whether it terminates and which of lifelines 0 and
+// 1 it evades.
 ghost use Prim.Native.Nat.{_<_, _≤_};
 ghost use lib.ListN.{length};
 ghost use Rattle.room.specs.Room.{Table, Rooted, Kept};

@@ -226,7 +226,8 @@ module _ (t : ℕ) where
       let (low, high) = is-loop p in
       let done = c .before .before .loop-of .ensures in
       rw (done .0, done .1)
-      (at-a-loop (work r) (lifeline r) (body .prune4 .last .0) (body .prune4 .result) low high (body .prune4 .ensures))
+      (at-a-loop (work r) (lifeline r) (body .prune4 .last .0) (body .prune4 .result) low high
+      (body .prune4 .ensures))
 
   same-length-8 : lts.Need-same-length-8 claims given f.Post
   same-length-8 c = refl
