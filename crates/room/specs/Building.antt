@@ -19,7 +19,7 @@ use Rattle.room.specs.declared.Executed.{Executed}
 use Rattle.room.specs.declared.Executed.the-variants.{FollowUp, Missing}
 use Rattle.room.specs.Room.{chartIn, Table, Kept}
 
--- The action that is meant.
+-- The action of a log that is meant (01, The log).
 abbrev pub actionOf : Action → chart.Action
 actionOf a = record { line = a .lifeline; receives = a .receives; message = a .message }
 
@@ -54,8 +54,8 @@ abbrev pub Prunes : List ℕ → ℕ → Chart → ℕ → List ℕ → Pruned �
 Prunes before used c d after (Part root) = (evades c d ≡ true) × Builds before used (prune c d) after root
 Prunes before used c d after Nothing = (evades c d ≡ false) × Kept used before after
 
--- Of these follow-ups, occurrences from left to right, number k was built; or there are too few, and so many are still
--- to be passed over.
+-- Of these follow-ups, occurrences from left to right, number k was built, counted from 0; or there are too few, and so
+-- many are still to be passed over (01, How a log is executed, Search).
 abbrev pub Follows : List ℕ → ℕ → List Made → ℕ → List ℕ → Executed → Type 0
 Follows before used xs k after (FollowUp root) = (k < length xs) × Builds before used (getD xs k newEmpty) after root
 Follows before used xs k after (Missing more) = (k ≡ length xs + more) × Kept used before after

@@ -22,8 +22,8 @@ nodeIn room place = nodeOf (getD room place 0)
 abbrev pub chartIn : List ℕ → ℕ → Chart
 chartIn room place = getD (charts (nodesIn room)) place empty
 
--- The first `used` places are in use: they are among the usable ones, or one more where the room was exceeded, and each
--- node in them has its parts at lower places.
+-- The first `used` places are in use, of at most 16,384 usable ones (01, How a log is executed): no more than there
+-- are, or one more where the room was exceeded. Each node in them has its parts at lower places.
 pub record Table (room : List ℕ) (used : ℕ) : Type 0 where
   pub usable : length room ≤ 16384
   pub counted : used ≤ suc (length room)
@@ -34,7 +34,7 @@ pub record Rooted (room : List ℕ) (place : ℕ) : Type 0 where
   pub inside : place < length room
   pub table : Table room (suc place)
 
--- Nothing in the first `used` places has changed.
+-- Nothing in the first `used` places has changed, nor has the length.
 pub record Kept (used : ℕ) (before after : List ℕ) : Type 0 where
   pub long : length after ≡ length before
   pub same : take used after ≡ take used before

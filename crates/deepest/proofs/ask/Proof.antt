@@ -1,7 +1,6 @@
 -- `ask` finds the part where it stood: pruning builds above it. Assumes nothing.
 use mathlib.Core.Path.{_∙_}
 use native.Mathlib.Omega.{arith}
-use borrow.Author.Needs.{needs}
 use Rattle.room.specs.Room.{chartIn}
 use Rattle.room.proofs.Standing.{kept-table}
 use Rattle.room.proofs.Apart.{kept-rooted}
@@ -25,10 +24,10 @@ prune-requires : tie.Need-prune-requires
 prune-requires c κs = c .before .before .before .before .before .before .before .before .before .pre
 
 enum-known-pruned : tie.Need-enum-known-pruned
-enum-known-pruned c = search needs
+enum-known-pruned c = c .match .keys1
 
 enum-told : tie.Need-enum-told
-enum-told c = search needs
+enum-told c = c .match .keys2
 
 same-length : tie.Need-same-length
 same-length c = c .before .before .before .before .prune .kept .0
@@ -57,10 +56,10 @@ execute-requires c κs =
     )
 
 enum-known-executed : tie.Need-enum-known-executed
-enum-known-executed c = search needs
+enum-known-executed c = c .match2 .keys1
 
 enum-told-2 : tie.Need-enum-told-2
-enum-told-2 c = search needs
+enum-told-2 c = c .match2 .keys2
 
 same-length-2 : tie.Need-same-length-2
 same-length-2 c =

@@ -3,7 +3,6 @@ use Prim.Native.Nat.{_≤_, _<_, _-_}
 use mathlib.Core.List.{List}
 use mathlib.Core.Path.{_≡_, refl, _∙_}
 use native.Mathlib.Omega.{arith}
-use borrow.Author.Needs.{needs}
 use lib.ListN.{length}
 use Rattle.chart.specs.Executing.{Made, follows}
 use Rattle.room.specs.Room.{chartIn, Table, Rooted}
@@ -51,10 +50,10 @@ execute-requires c κs =
     (inv .2, inv .3, inv .4)
 
 enum-known-answer : tie.Need-enum-known-answer Inv-loop μ-loop
-enum-known-answer c = search needs
+enum-known-answer c = c .match .keys1
 
 enum-told : tie.Need-enum-told Inv-loop μ-loop
-enum-told c = search needs
+enum-told c = c .match .keys2
 
 same-length : tie.Need-same-length Inv-loop μ-loop
 same-length c =

@@ -1,6 +1,5 @@
 -- `run` meets its contract: the card was found sound before it was laid. Assumes nothing.
 use mathlib.Core.Path.{sym, ap, _∙_}
-use borrow.Author.Needs.{needs}
 use Rattle.card.specs.Table.{Sound}
 use Rattle.card.proofs.Promises.{zero-exactly-for-sound-cards}
 use Rattle.laying.proofs.Onward.{whole-is-a-table, whole-is-rooted, whole-is-below}
@@ -23,10 +22,10 @@ lay-requires : tie.Need-lay-requires
 lay-requires c κs = (is-sound (c .before), c .before .before .before .before .before .before .pre)
 
 enum-known-laid : tie.Need-enum-known-laid
-enum-known-laid c = search needs
+enum-known-laid c = c .match .keys1
 
 enum-told : tie.Need-enum-told
-enum-told c = search needs
+enum-told c = c .match .keys2
 
 same-length : tie.Need-same-length
 same-length c = c .before .before .before .before .lay .kept .1 .0

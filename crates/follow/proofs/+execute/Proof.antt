@@ -2,7 +2,6 @@
 -- parts. Assumes nothing.
 use mathlib.Core.Path.{_≡_, refl, _∙_}
 use native.Mathlib.Omega.{arith}
-use borrow.Author.Needs.{needs}
 use Rattle.chart.specs.Action as chart
 use Rattle.room.specs.Building.{actionOf}
 use Rattle.room.proofs.Apart.{Working}
@@ -102,7 +101,7 @@ module _ (t : ℕ) where
       (omega (arith, at-place r), asks)
 
   enum-known-left : lts.Need-enum-known-left claims given f.Post
-  enum-known-left c = search needs
+  enum-known-left c = c .match2 .keys1
 
   on-left-requires : lts.Need-on-left-requires claims given f.Post
   on-left-requires c κs =
@@ -115,7 +114,7 @@ module _ (t : ℕ) where
       asks-to-carry (work r) (occurrence r) (action r) low high (l .execute .last .0) (x .0 .0) made
 
   enum-known-left-2 : lts.Need-enum-known-left-2 claims given f.Post
-  enum-known-left-2 c = search needs
+  enum-known-left-2 c = c .match2 .keys2
 
   execute-requires-2 : lts.Need-execute-requires-2 claims given f.Post
   execute-requires-2 c κs =
@@ -149,10 +148,10 @@ module _ (t : ℕ) where
       (omega (arith, at-place r), asks)
 
   enum-known-round : lts.Need-enum-known-round claims given f.Post
-  enum-known-round c = search needs
+  enum-known-round c = c .match3 .keys1
 
   enum-told : lts.Need-enum-told claims given f.Post
-  enum-told c = search needs
+  enum-told c = c .match3 .keys2
 
   same-length : lts.Need-same-length claims given f.Post
   same-length c = c .before .before .before .before .execute3 .kept .0

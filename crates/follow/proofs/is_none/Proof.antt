@@ -1,13 +1,12 @@
 -- `is_none` meets its contract, by the case of each return. Assumes nothing.
-use borrow.Author.Needs.{needs}
 use Rattle.follow.proofs.is_none.Statement.{statement}
 use Rattle.follow.proofs.is_none.Tie as tie
 
 enum-known-answer : tie.Need-enum-known-answer
-enum-known-answer c = search needs
+enum-known-answer c = c .match .keys1
 
 enum-told : tie.Need-enum-told
-enum-told c = search needs
+enum-told c = c .match .keys2
 
 returns : tie.Need-returns
 returns c = rw (c .enum-told .given .1)

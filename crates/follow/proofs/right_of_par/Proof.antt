@@ -1,5 +1,4 @@
 -- `right_of_par` meets its contract: the side is replaced, if it has a follow-up. Assumes nothing.
-use borrow.Author.Needs.{needs}
 use Rattle.node.proofs.Ranges.{par-is-five}
 use Rattle.room.specs.Room.{chartIn}
 use Rattle.follow.proofs.Pairing.{par-none-yet, par-replaced}
@@ -7,10 +6,10 @@ use Rattle.follow.proofs.right_of_par.Statement.{statement}
 use Rattle.follow.proofs.right_of_par.Tie as tie
 
 enum-known-right : tie.Need-enum-known-right
-enum-known-right c = search needs
+enum-known-right c = c .match .keys1
 
 enum-told : tie.Need-enum-told
-enum-told c = search needs
+enum-told c = c .match .keys2
 
 returns : tie.Need-returns
 returns c =

@@ -1,7 +1,6 @@
 -- `right_of_seq` meets its contract: with a follow-up on the right the left is pruned, and with none it is asked
 -- whether it evades the lifeline. Assumes nothing.
 use mathlib.Core.Path.{refl, sym, _∙_}
-use borrow.Author.Needs.{needs}
 use Rattle.node.proofs.Ranges.{seq-is-four}
 use Rattle.room.specs.Room.{chartIn}
 use Rattle.follow.proofs.Pairing.{seq-none-yet, seq-blocks, seq-blocks-after-all, seq-passed}
@@ -9,10 +8,10 @@ use Rattle.follow.proofs.right_of_seq.Statement.{statement}
 use Rattle.follow.proofs.right_of_seq.Tie as tie
 
 enum-known-right : tie.Need-enum-known-right
-enum-known-right c = search needs
+enum-known-right c = c .match .keys1
 
 enum-told : tie.Need-enum-told
-enum-told c = search needs
+enum-told c = c .match .keys2
 
 evades-requires : tie.Need-evades-requires
 evades-requires c κs = c .before .before .before .before .pre .0
@@ -43,10 +42,10 @@ prune-requires c κs =
     (beside .0, c .before .before .before .before .before .pre .0, beside .1)
 
 enum-known-pruned : tie.Need-enum-known-pruned
-enum-known-pruned c = search needs
+enum-known-pruned c = c .match2 .keys1
 
 enum-told-2 : tie.Need-enum-told-2
-enum-told-2 c = search needs
+enum-told-2 c = c .match2 .keys2
 
 same-length-3 : tie.Need-same-length-3
 same-length-3 c = c .before .before .before .before .prune .kept .0

@@ -2,7 +2,6 @@
 -- Assumes nothing.
 use mathlib.Core.Path.{_≡_, refl, _∙_}
 use native.Mathlib.Omega.{arith}
-use borrow.Author.Needs.{needs}
 use Rattle.room.proofs.Apart.{Working, left-lower, right-lower, body-lower}
 use Rattle.pruning.proofs.Left.{at-an-empty, at-the-unknown, at-another-action, at-an-action-on-it, asks-left, at-a-lost-order, asks-right-alone, at-an-alt-by-its-right, asks-right, above-right, at-a-pair, asks-body, above-body, at-a-loop}
 use Prim.Native.Nat.{ℕ, _<_, _≤_}
@@ -97,10 +96,10 @@ module _ (t : ℕ) where
       (omega (arith, at-place r), asks-left (work r) (lifeline r) low high)
 
   enum-known-left : lts.Need-enum-known-left claims given f.Post
-  enum-known-left c = search needs
+  enum-known-left c = c .match2 .keys1
 
   enum-told : lts.Need-enum-told claims given f.Post
-  enum-told c = search needs
+  enum-told c = c .match2 .keys2
 
   prune-requires-2 : lts.Need-prune-requires-2 claims given f.Post
   prune-requires-2 c κs =

@@ -1,13 +1,12 @@
 -- `loop_of` meets its contract, by the case of each return. Assumes nothing.
-use borrow.Author.Needs.{needs}
 use Rattle.pruning.proofs.loop_of.Statement.{statement}
 use Rattle.pruning.proofs.loop_of.Tie as tie
 
 enum-known-body : tie.Need-enum-known-body
-enum-known-body c = search needs
+enum-known-body c = c .match .keys1
 
 enum-told : tie.Need-enum-told
-enum-told c = search needs
+enum-told c = c .match .keys2
 
 add-requires : tie.Need-add-requires
 add-requires c κs = rw (c .before .enum-told .given .1) at (c .before .before .before .before .pre)

@@ -1,15 +1,14 @@
 -- `pair_of` meets its contract, by the case of each return. Assumes nothing.
 use mathlib.Core.Path.{refl}
-use borrow.Author.Needs.{needs}
 use borrow.Author.Tests.{eq-eqb, ne-eqb}
 use Rattle.pruning.proofs.pair_of.Statement.{statement}
 use Rattle.pruning.proofs.pair_of.Tie as tie
 
 enum-known-right : tie.Need-enum-known-right
-enum-known-right c = search needs
+enum-known-right c = c .match .keys1
 
 enum-told : tie.Need-enum-told
-enum-told c = search needs
+enum-told c = c .match .keys2
 
 returns : tie.Need-returns
 returns c =
