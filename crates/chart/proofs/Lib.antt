@@ -4,6 +4,7 @@ pub mod Deals
 pub mod Evading
 pub mod Pruning
 pub mod Keeping
+pub mod Growing
 pub mod Looping
 pub mod Choices
 pub mod Following

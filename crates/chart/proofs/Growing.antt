@@ -1,0 +1,160 @@
+-- How deep a chart grows while a log is executed. Count a loop as two levels and any other node as one: pruning makes
+-- no chart deeper in this count, and a follow-up is at most two levels deeper than its chart. A chart has fewer levels
+-- than twice its depth, and no fewer than its depth; so each action adds at most two to twice the depth.
+-- Assumes nothing.
+use Prim.Native.Nat.{ℕ, zero, suc, _+_, _*_, max, _<_, _≤_}
+use native.Mathlib.Omega.{arith}
+use mathlib.Core.Bool.{Bool, true, false, cond}
+use mathlib.Core.List.{List, [], _∷_, _++_, map}
+use mathlib.Core.Path.{_≡_, subst, sym}
+use lib.ListN.{length, getD}
+use Rattle.chart.specs.Action.{Action, Log, Every, same}
+use Rattle.chart.specs.Chart.{Order, strict, seq, par, Loop, each, head, Chart, empty, act, alt, pair, loop, depth}
+use Rattle.chart.specs.Executing.{Made, kept, newEmpty, newPair, chartOf}
+use Rattle.chart.specs.Executing.{terminates, evades, prunedAlt, prunedLoop, prune, onRight, afterRound, follows}
+
+-- The depth, with a loop counted as two levels.
+abbrev pub levels : Chart → ℕ
+levels empty = 1
+levels (act a) = 1
+levels (alt l r) = 1 + max (levels l) (levels r)
+levels (pair o l r) = 1 + max (levels l) (levels r)
+levels (loop k b) = 2 + levels b
+
+pub no-deeper-than-its-levels : (c : Chart) → depth c ≤ levels c
+no-deeper-than-its-levels empty = omega arith
+no-deeper-than-its-levels (act a) = omega arith
+no-deeper-than-its-levels (alt l r) = omega (arith, no-deeper-than-its-levels l, no-deeper-than-its-levels r)
+no-deeper-than-its-levels (pair o l r) = omega (arith, no-deeper-than-its-levels l, no-deeper-than-its-levels r)
+no-deeper-than-its-levels (loop k b) = omega (arith, no-deeper-than-its-levels b)
+
+pub fewer-levels-than-twice-the-depth : (c : Chart) → levels c < 2 * depth c
+fewer-levels-than-twice-the-depth empty = omega arith
+fewer-levels-than-twice-the-depth (act a) = omega arith
+fewer-levels-than-twice-the-depth (alt l r) =
+    omega (arith, fewer-levels-than-twice-the-depth l, fewer-levels-than-twice-the-depth r)
+fewer-levels-than-twice-the-depth (pair o l r) =
+    omega (arith, fewer-levels-than-twice-the-depth l, fewer-levels-than-twice-the-depth r)
+fewer-levels-than-twice-the-depth (loop k b) = omega (arith, fewer-levels-than-twice-the-depth b)
+
+-- The levels of what was made.
+abbrev made : Made → ℕ
+made m = levels (chartOf m)
+
+pruned-alt-levels : (p q : Bool) (m n : Made) → made (prunedAlt p q m n) ≤ 1 + max (made m) (made n)
+pruned-alt-levels true true m n = omega arith
+pruned-alt-levels true false m n = omega arith
+pruned-alt-levels false q m n = omega arith
+
+pruned-loop-levels : (p : Bool) (k : Loop) (m : Made) → made (prunedLoop p k m) ≤ 2 + made m
+pruned-loop-levels true k m = omega arith
+pruned-loop-levels false k m = omega arith
+
+-- Pruning makes no chart deeper.
+pub pruning-makes-no-deeper : (c : Chart) (d : ℕ) → levels (chartOf (prune c d)) ≤ levels c
+unfolding prune
+pruning-makes-no-deeper empty d = omega arith
+pruning-makes-no-deeper (act a) d = omega arith
+pruning-makes-no-deeper (alt l r) d =
+    omega (
+      arith,
+      pruned-alt-levels (evades l d) (evades r d) (prune l d) (prune r d),
+      pruning-makes-no-deeper l d,
+      pruning-makes-no-deeper r d,
+    )
+pruning-makes-no-deeper (pair o l r) d = omega (arith, pruning-makes-no-deeper l d, pruning-makes-no-deeper r d)
+pruning-makes-no-deeper (loop k b) d =
+    omega (arith, pruned-loop-levels (evades b d) k (prune b d), pruning-makes-no-deeper b d)
+
+-- Each of the follow-ups has at most n levels.
+abbrev Within : ℕ → List Made → Type 0
+Within n xs = Every (λ x. made x ≤ n) xs
+
+within-map :
+    (f : Made → Made) (m n : ℕ) → ((x : Made) → made x ≤ m → made (f x) ≤ n) → (xs : List Made) → Within m xs
+    → Within n (map f xs)
+within-map f m n step [] h = tt
+within-map f m n step (x ∷ xs) (h, hs) = (step x h, within-map f m n step xs hs)
+
+within-more : (m n : ℕ) → m ≤ n → (xs : List Made) → Within m xs → Within n xs
+within-more m n more [] h = tt
+within-more m n more (x ∷ xs) (h, hs) = (omega arith, within-more m n more xs hs)
+
+within-both : (n : ℕ) (xs ys : List Made) → Within n xs → Within n ys → Within n (xs ++ ys)
+within-both n [] ys h k = k
+within-both n (x ∷ xs) ys (h, hs) k = (h, within-both n xs ys hs k)
+
+within-if : (n : ℕ) (p : Bool) (xs : List Made) → Within n xs → Within n (cond p xs [])
+within-if n true xs h = h
+within-if n false xs h = tt
+
+-- On the right of a pair.
+on-right-within :
+    (o : Order) (l : Chart) (d n : ℕ) (xs : List Made) → levels l ≤ n → Within n xs → Within (1 + n) (onRight o l d xs)
+on-right-within strict l d n xs h hs = within-if (1 + n) (terminates l) xs (within-more n (1 + n) (omega arith) xs hs)
+on-right-within seq l d n xs h hs =
+    within-if (1 + n) (evades l d) (map (newPair seq (prune l d)) xs)
+    (within-map (newPair seq (prune l d)) n (1 + n) (λ x hx. omega (arith, pruning-makes-no-deeper l d)) xs hs)
+on-right-within par l d n xs h hs = within-map (newPair par (kept l)) n (1 + n) (λ x hx. omega arith) xs hs
+
+-- A round more.
+after-round-within :
+    (k : Loop) (b : Chart) (d : ℕ) (x : Made) → made x ≤ 2 + levels b → made (afterRound k b d x) ≤ 2 + levels (loop k b)
+after-round-within (each strict) b d x h = omega arith
+after-round-within (each seq) b d x h = omega (arith, pruning-makes-no-deeper (loop (each seq) b) d)
+after-round-within (each par) b d x h = omega arith
+after-round-within head b d x h = omega arith
+
+-- A follow-up is at most two levels deeper than its chart.
+pub two-levels-deeper : (c : Chart) (a : Action) → Within (2 + levels c) (follows c a)
+unfolding follows
+two-levels-deeper empty a = tt
+two-levels-deeper (act b) a = within-if 3 (same a b) (newEmpty ∷ []) (omega arith, tt)
+two-levels-deeper (alt l r) a =
+    let n = 2 + levels (alt l r) in
+    within-both n (follows l a) (follows r a)
+    (within-more (2 + levels l) n (omega arith) (follows l a) (two-levels-deeper l a))
+    (within-more (2 + levels r) n (omega arith) (follows r a) (two-levels-deeper r a))
+two-levels-deeper (pair o l r) a =
+    let m = 2 + max (levels l) (levels r) in
+    let n = 2 + levels (pair o l r) in
+    let lefts = map (λ x. newPair o x (kept r)) (follows l a) in
+    let rights = onRight o l (a .line) (follows r a) in
+    within-both n lefts rights
+    (within-map (λ x. newPair o x (kept r)) (2 + levels l) n (λ x h. omega arith) (follows l a) (two-levels-deeper l a))
+    (within-more (1 + m) n (omega arith) rights
+    (on-right-within o l (a .line) m (follows r a) (omega arith)
+    (within-more (2 + levels r) m (omega arith) (follows r a) (two-levels-deeper r a))))
+two-levels-deeper (loop k b) a =
+    within-map (afterRound k b (a .line)) (2 + levels b) (2 + levels (loop k b)) (after-round-within k b (a .line))
+    (follows b a) (two-levels-deeper b a)
+
+-- A chart that is left when a log has been executed on a chart, by some occurrence of each action.
+abbrev pub LeftBy : Chart → Log → Chart → Type 0
+LeftBy c [] x = x ≡ c
+LeftBy c (a ∷ t) x =
+    (k : ℕ) × (k < length (follows c a)) × LeftBy (chartOf (getD (follows c a) k newEmpty)) t x
+
+within-at : (n : ℕ) (xs : List Made) (k : ℕ) → Within n xs → k < length xs → made (getD xs k newEmpty) ≤ n
+within-at n [] k h inside = absurd (omega arith)
+within-at n (x ∷ xs) zero (h, hs) inside = h
+within-at n (x ∷ xs) (suc k) (h, hs) inside = within-at n xs k hs (omega arith)
+
+left-within : (t : Log) (c x : Chart) → LeftBy c t x → levels x ≤ levels c + 2 * length t
+left-within [] c x e = subst (λ y. levels y ≤ levels c + 2 * 0) (sym e) (omega arith)
+left-within (a ∷ t) c x (k, inside, rest) =
+    let y = chartOf (getD (follows c a) k newEmpty) in
+    omega (
+      arith,
+      left-within t y x rest,
+      within-at (2 + levels c) (follows c a) k (two-levels-deeper c a) inside,
+    )
+
+-- Each action adds at most two to twice the depth: after 128 of them a chart 16 deep is at most 287 deep.
+pub how-deep-a-chart-grows : (c : Chart) (t : Log) (x : Chart) → LeftBy c t x → depth x < 2 * depth c + 2 * length t
+how-deep-a-chart-grows c t x left =
+    omega (arith, no-deeper-than-its-levels x, fewer-levels-than-twice-the-depth c, left-within t c x left)
+
+pub at-most-287-deep :
+    (c : Chart) (t : Log) (x : Chart) → depth c ≤ 16 → length t ≤ 128 → LeftBy c t x → depth x ≤ 287
+at-most-287-deep c t x shallow short left = omega (arith, how-deep-a-chart-grows c t x left)
