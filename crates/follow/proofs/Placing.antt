@@ -103,11 +103,17 @@ module _ (work : Working) (k : ℕ) (a : Action) where
     right-there : (n .b < place) × Rooted before (n .b)
     right-there = right-lower r low high
 
-    follows-there :
-        (q : Pair) → kindOf (n .kind) ≡ pairs q
-        → followsAt place
-        ≡ map (besideRight q (chartIn before (n .b))) (followsAt (n .a))
-        ++ besideLeft q (chartIn before (n .a)) (a .line) (followsAt (n .b))
+    -- What becomes of a follow-up on its left side, and the follow-ups that come of either side.
+    abbrev replaced : Pair → Made → Made
+    replaced q = besideRight q (chartIn before (n .b))
+
+    abbrev lefts : Pair → List Made
+    lefts q = map (replaced q) (followsAt (n .a))
+
+    abbrev rights : Pair → List Made
+    rights q = besideLeft q (chartIn before (n .a)) (a .line) (followsAt (n .b))
+
+    follows-there : (q : Pair) → kindOf (n .kind) ≡ pairs q → followsAt place ≡ lefts q ++ rights q
     follows-there q is =
         ap (λ c. follows c a) (pair-here r q is)
         ∙ follows-of-a-pair q (chartIn before (n .a)) (chartIn before (n .b)) a
@@ -123,8 +129,8 @@ module _ (work : Working) (k : ℕ) (a : Action) where
 
         pub on-its-left :
             (after : List ℕ) (y : Root)
-            → ((q : Pair) → kindOf (n .kind) ≡ pairs q → Carries middle x (besideRight q (chartIn middle (n .b))) after
-            y)
+            → ((q : Pair) → kindOf (n .kind) ≡ pairs q
+            → Carries middle x (besideRight q (chartIn middle (n .b))) after y)
             → Follows before used (followsAt place) k after (FollowUp y)
         on-its-left after y carries =
             let (q, is) = three-to-six-are-pairs (n .kind) low high in
@@ -133,14 +139,12 @@ module _ (work : Working) (k : ℕ) (a : Action) where
             let same : chartIn middle (n .b) ≡ chartIn before (n .b)
             = kept-chart used before middle (built .kept) (n .b) (omega arith) (there .inside) in
             let m = getD (followsAt (n .a)) k newEmpty in
-            let carried : Builds before used (besideRight q (chartIn before (n .b)) m) after y
-            = subst (λ c. Builds before used (besideRight q c m) after y) same (carries q is before used m table built)
-            in
+            let carried : Builds before used (replaced q m) after y
+            = subst (λ c. Builds before used (besideRight q c m) after y) same
+            (carries q is before used m table built) in
             subst (λ xs. Follows before used xs k after (FollowUp y)) (sym (follows-there q is))
-            (in-the-first before used (map (besideRight q (chartIn before (n .b))) (followsAt (n .a))) k
-            (besideLeft q (chartIn before (n .a)) (a .line) (followsAt (n .b))) after y
-            (changed-follow-up before used (followsAt (n .a)) k (besideRight q (chartIn before (n .b))) after y h
-            carried))
+            (in-the-first before used (lefts q) k (rights q) after y
+            (changed-follow-up before used (followsAt (n .a)) k (replaced q) after y h carried))
 
     -- None on its left side, and so many still to be passed over.
     module _ (middle : List ℕ) (more : ℕ) (on-left : Follows before used (followsAt (n .a)) k middle (Missing more))
@@ -185,19 +189,12 @@ module _ (work : Working) (k : ℕ) (a : Action) where
               = kept-chart used before room keeps (n .a) (omega arith) (l-there .inside) in
               let same-right : chartIn middle (n .b) ≡ chartIn before (n .b)
               = kept-chart used before middle (on-left .1) (n .b) (omega arith) (b-there .inside) in
-              let turned : Follows middle used (besideLeft q (chartIn before (n .a)) (a .line) (followsAt (n .b))) more after answer
-              = subst (λ c. Follows middle used (besideLeft q (chartIn before (n .a)) (a .line) (follows c a)) more
-              after answer) same-right
-              (subst (λ c. Follows middle used (besideLeft q c (a .line) (follows (chartIn middle (n .b)) a)) more after
-              answer) same-left
-              (turns q is middle used (follows (chartIn middle (n .b)) a) middle-table on-right)) in
+              let turned = turns q is middle used (follows (chartIn middle (n .b)) a) middle-table on-right in
+              let there : Follows middle used (rights q) more after answer
+              = rw (← same-left, ← same-right) turned in
               subst (λ xs. Follows before used xs k after answer) (sym (follows-there q is))
-              (in-the-second before used (map (besideRight q (chartIn before (n .b))) (followsAt (n .a))) k
-              (besideLeft q (chartIn before (n .a)) (a .line) (followsAt (n .b))) middle after more answer
-              (table .counted)
-              (changed-missing before used (followsAt (n .a)) k (besideRight q (chartIn before (n .b))) middle more
-              on-left)
-              turned)
+              (in-the-second before used (lefts q) k (rights q) middle after more answer (table .counted)
+              (changed-missing before used (followsAt (n .a)) k (replaced q) middle more on-left) there)
 
   -- A loop.
   module _ (low : 7 ≤ n .kind) (high : n .kind ≤ 10) where
