@@ -193,7 +193,10 @@ fn show(card: &[u8], steps: &[u8]) {
     show_in(card, steps, &mut room);
 }
 
-// The table of 01: empty, S, par(0!0, 0!0), alt(0!0, S), head loop of K and weak loop of K.
+// The charts of 01's table: empty, S, par(0!0, 0!0), alt(0!0, S), head loop of K and weak loop of K. Of its errors these
+// show: following the first occurrence only, and counting the places of a failed choice for ever (alt(0!0, S): two
+// follow-ups, both built from five places in use); running a weak loop as a head loop (the last two); taking "the log is
+// used up" for acceptance (S after 0!0 does not terminate).
 fn table() {
     show(b"\x00\x00\x00\x00\x04\x00\x02\x03\x57\x4c", b"\x00\x00\x00");
     show(
@@ -222,7 +225,8 @@ fn table() {
     );
 }
 
-// The right of a seq, with the left pruned: to one side, to both, to an empty loop, to a loop; and not at all.
+// The right of a seq, with the left pruned: an alt to one side, so that a log whose left choice contradicts it finds no
+// follow-up; an alt to both sides; a loop to an empty; a loop to a loop; and a left that lets nothing pass.
 fn seqs() {
     show(
         b"\x01\x00\x00\x00\x01\x01\x00\x00\x06\x00\x01\x00\x01\x00\x01\x00\x04\x02\x03\x00\x14\x00\x02\x03\x57\x4c",
