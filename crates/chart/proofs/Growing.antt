@@ -2,16 +2,17 @@
 -- no chart deeper in this count, and a follow-up is at most two levels deeper than its chart. A chart has fewer levels
 -- than twice its depth, and no fewer than its depth; so each action adds at most two to twice the depth.
 -- Assumes nothing.
-use Prim.Native.Nat.{ℕ, zero, suc, _+_, _*_, max, _<_, _≤_}
+use Prim.Native.Nat.{ℕ, _+_, _*_, max, _<_, _≤_}
 use native.Mathlib.Omega.{arith}
-use mathlib.Core.Bool.{Bool, true, false, cond}
-use mathlib.Core.List.{List, [], _∷_, _++_, map}
+use mathlib.Core.Bool.{Bool, true, false}
+use mathlib.Core.List.{List, [], _∷_, map}
 use mathlib.Core.Path.{_≡_, subst, sym}
 use lib.ListN.{length, getD}
 use Rattle.chart.specs.Action.{Action, Log, Every, same}
 use Rattle.chart.specs.Chart.{Order, strict, seq, par, Loop, each, head, Chart, empty, act, alt, pair, loop, depth}
 use Rattle.chart.specs.Executing.{Made, kept, newEmpty, newPair, chartOf}
 use Rattle.chart.specs.Executing.{terminates, evades, prunedAlt, prunedLoop, prune, onRight, afterRound, follows}
+use Rattle.chart.proofs.Each.{every-map, every-implies, every-append, every-if, every-at}
 
 -- The depth, with a loop counted as two levels.
 abbrev pub levels : Chart → ℕ
@@ -66,36 +67,24 @@ pruning-makes-no-deeper (pair o l r) d = omega (arith, pruning-makes-no-deeper l
 pruning-makes-no-deeper (loop k b) d =
     omega (arith, pruned-loop-levels (evades b d) k (prune b d), pruning-makes-no-deeper b d)
 
--- Each of the follow-ups has at most n levels.
-abbrev Within : ℕ → List Made → Type 0
-Within n xs = Every (λ x. made x ≤ n) xs
+-- At most n levels, and each of the follow-ups so.
+abbrev AtMost : ℕ → Made → Type 0
+AtMost n x = made x ≤ n
 
-within-map :
-    (f : Made → Made) (m n : ℕ) → ((x : Made) → made x ≤ m → made (f x) ≤ n) → (xs : List Made) → Within m xs
-    → Within n (map f xs)
-within-map f m n step [] h = tt
-within-map f m n step (x ∷ xs) (h, hs) = (step x h, within-map f m n step xs hs)
+abbrev Within : ℕ → List Made → Type 0
+Within n xs = Every (AtMost n) xs
 
 within-more : (m n : ℕ) → m ≤ n → (xs : List Made) → Within m xs → Within n xs
-within-more m n more [] h = tt
-within-more m n more (x ∷ xs) (h, hs) = (omega arith, within-more m n more xs hs)
-
-within-both : (n : ℕ) (xs ys : List Made) → Within n xs → Within n ys → Within n (xs ++ ys)
-within-both n [] ys h k = k
-within-both n (x ∷ xs) ys (h, hs) k = (h, within-both n xs ys hs k)
-
-within-if : (n : ℕ) (p : Bool) (xs : List Made) → Within n xs → Within n (cond p xs [])
-within-if n true xs h = h
-within-if n false xs h = tt
+within-more m n more xs h = every-implies (AtMost m) (AtMost n) (λ x hx. omega arith) xs h
 
 -- On the right of a pair.
 on-right-within :
     (o : Order) (l : Chart) (d n : ℕ) (xs : List Made) → levels l ≤ n → Within n xs → Within (1 + n) (onRight o l d xs)
-on-right-within strict l d n xs h hs = within-if (1 + n) (terminates l) xs (within-more n (1 + n) (omega arith) xs hs)
+on-right-within strict l d n xs h hs = every-if (AtMost (1 + n)) (terminates l) xs (within-more n (1 + n) (omega arith) xs hs)
 on-right-within seq l d n xs h hs =
-    within-if (1 + n) (evades l d) (map (newPair seq (prune l d)) xs)
-    (within-map (newPair seq (prune l d)) n (1 + n) (λ x hx. omega (arith, pruning-makes-no-deeper l d)) xs hs)
-on-right-within par l d n xs h hs = within-map (newPair par (kept l)) n (1 + n) (λ x hx. omega arith) xs hs
+    every-if (AtMost (1 + n)) (evades l d) (map (newPair seq (prune l d)) xs)
+    (every-map (AtMost n) (AtMost (1 + n)) (newPair seq (prune l d)) (λ x hx. omega (arith, pruning-makes-no-deeper l d)) xs hs)
+on-right-within par l d n xs h hs = every-map (AtMost n) (AtMost (1 + n)) (newPair par (kept l)) (λ x hx. omega arith) xs hs
 
 -- A round more.
 after-round-within :
@@ -109,10 +98,10 @@ after-round-within head b d x h = omega arith
 pub two-levels-deeper : (c : Chart) (a : Action) → Within (2 + levels c) (follows c a)
 unfolding follows
 two-levels-deeper empty a = tt
-two-levels-deeper (act b) a = within-if 3 (same a b) (newEmpty ∷ []) (omega arith, tt)
+two-levels-deeper (act b) a = every-if (AtMost 3) (same a b) (newEmpty ∷ []) (omega arith, tt)
 two-levels-deeper (alt l r) a =
     let n = 2 + levels (alt l r) in
-    within-both n (follows l a) (follows r a)
+    every-append (AtMost n) (follows l a) (follows r a)
     (within-more (2 + levels l) n (omega arith) (follows l a) (two-levels-deeper l a))
     (within-more (2 + levels r) n (omega arith) (follows r a) (two-levels-deeper r a))
 two-levels-deeper (pair o l r) a =
@@ -120,13 +109,13 @@ two-levels-deeper (pair o l r) a =
     let n = 2 + levels (pair o l r) in
     let lefts = map (λ x. newPair o x (kept r)) (follows l a) in
     let rights = onRight o l (a .line) (follows r a) in
-    within-both n lefts rights
-    (within-map (λ x. newPair o x (kept r)) (2 + levels l) n (λ x h. omega arith) (follows l a) (two-levels-deeper l a))
+    every-append (AtMost n) lefts rights
+    (every-map (AtMost (2 + levels l)) (AtMost n) (λ x. newPair o x (kept r)) (λ x h. omega arith) (follows l a) (two-levels-deeper l a))
     (within-more (1 + m) n (omega arith) rights
     (on-right-within o l (a .line) m (follows r a) (omega arith)
     (within-more (2 + levels r) m (omega arith) (follows r a) (two-levels-deeper r a))))
 two-levels-deeper (loop k b) a =
-    within-map (afterRound k b (a .line)) (2 + levels b) (2 + levels (loop k b)) (after-round-within k b (a .line))
+    every-map (AtMost (2 + levels b)) (AtMost (2 + levels (loop k b))) (afterRound k b (a .line)) (after-round-within k b (a .line))
     (follows b a) (two-levels-deeper b a)
 
 -- A chart that is left when a log has been executed on a chart, by some occurrence of each action.
@@ -135,11 +124,6 @@ LeftBy c [] x = x ≡ c
 LeftBy c (a ∷ t) x =
     (k : ℕ) × (k < length (follows c a)) × LeftBy (chartOf (getD (follows c a) k newEmpty)) t x
 
-within-at : (n : ℕ) (xs : List Made) (k : ℕ) → Within n xs → k < length xs → made (getD xs k newEmpty) ≤ n
-within-at n [] k h inside = absurd (omega arith)
-within-at n (x ∷ xs) zero (h, hs) inside = h
-within-at n (x ∷ xs) (suc k) (h, hs) inside = within-at n xs k hs (omega arith)
-
 left-within : (t : Log) (c x : Chart) → LeftBy c t x → levels x ≤ levels c + 2 * length t
 left-within [] c x e = subst (λ y. levels y ≤ levels c + 2 * 0) (sym e) (omega arith)
 left-within (a ∷ t) c x (k, inside, rest) =
@@ -147,7 +131,7 @@ left-within (a ∷ t) c x (k, inside, rest) =
     omega (
       arith,
       left-within t y x rest,
-      within-at (2 + levels c) (follows c a) k (two-levels-deeper c a) inside,
+      every-at (AtMost (2 + levels c)) (follows c a) k newEmpty (two-levels-deeper c a) inside,
     )
 
 -- Each action adds at most two to twice the depth: after 128 of them a chart 16 deep is at most 287 deep.

@@ -6,12 +6,13 @@
 -- Assumes nothing.
 use Prim.Native.Nat.{ℕ, _+_}
 use native.Mathlib.Omega.{arith}
-use mathlib.Core.Bool.{Bool, true, false, cond}
-use mathlib.Core.List.{List, [], _∷_, _++_, map}
+use mathlib.Core.Bool.{Bool, true, false}
+use mathlib.Core.List.{List, [], _∷_, map}
 use mathlib.Core.Path.{_≡_, refl}
-use Rattle.chart.specs.Action.{Action, same}
+use Rattle.chart.specs.Action.{Action, Every, same}
 use Rattle.chart.specs.Chart.{Order, strict, seq, par, Loop, each, head, Chart, empty, act, alt, pair, loop, size}
 use Rattle.chart.specs.Executing.{terminates, evades, Made, kept, newEmpty, newAlt, newPair, newLoop, chartOf, costOf, prunedAlt, prunedLoop, prune, letsPass, passed, onRight, begun, afterRound, follows}
+use Rattle.chart.proofs.Each.{every-map, every-implies, every-append, every-if}
 
 -- A part of a chart: the chart itself, or a part of a side or of the body.
 pub data Part : Chart → Chart → Type 0 where
@@ -98,28 +99,6 @@ prune-keeps-parts (loop k b) d =
 
 -- ---- executing
 
--- Each of several has the property.
-abbrev pub All : (Made → Type 0) → List Made → Type 0
-All P [] = Unit
-All P (x ∷ xs) = P x × All P xs
-
-all-implies : (P Q : Made → Type 0) → ((x : Made) → P x → Q x) → (xs : List Made) → All P xs → All Q xs
-all-implies P Q f [] h = tt
-all-implies P Q f (x ∷ xs) h = (f x (h .0), all-implies P Q f xs (h .1))
-
-all-append : (P : Made → Type 0) (xs ys : List Made) → All P xs → All P ys → All P (xs ++ ys)
-all-append P [] ys h g = g
-all-append P (x ∷ xs) ys h g = (h .0, all-append P xs ys (h .1) g)
-
-all-map : (P Q : Made → Type 0) (f : Made → Made) → ((x : Made) → P x → Q (f x)) → (xs : List Made) → All P xs
-    → All Q (map f xs)
-all-map P Q f g [] h = tt
-all-map P Q f g (x ∷ xs) h = (g x (h .0), all-map P Q f g xs (h .1))
-
-all-if : (P : Made → Type 0) (p : Bool) (xs : List Made) → All P xs → All P (cond p xs [])
-all-if P true xs h = h
-all-if P false xs h = tt
-
 -- What was made keeps parts of the chart c.
 abbrev pub KeepsPartsOf : Chart → Made → Type 0
 KeepsPartsOf c x = EachKept (Part c) x
@@ -128,18 +107,18 @@ KeepsPartsOf c x = EachKept (Part c) x
 of-whole : (p c : Chart) → ((q : Chart) → Part p q → Part c q) → (x : Made) → KeepsPartsOf p x → KeepsPartsOf c x
 of-whole p c f x h = each-kept-implies (Part p) (Part c) f x h
 
-on-right-keeps-parts : (o : Order) (l r : Chart) (d : ℕ) (xs : List Made) → All (KeepsPartsOf r) xs
-    → All (KeepsPartsOf (pair o l r)) (onRight o l d xs)
+on-right-keeps-parts : (o : Order) (l r : Chart) (d : ℕ) (xs : List Made) → Every (KeepsPartsOf r) xs
+    → Every (KeepsPartsOf (pair o l r)) (onRight o l d xs)
 on-right-keeps-parts strict l r d xs h =
-    all-if (KeepsPartsOf (pair strict l r)) (terminates l) xs
-    (all-implies (KeepsPartsOf r) (KeepsPartsOf (pair strict l r)) (of-whole r (pair strict l r) (λ q. pair-right)) xs h)
+    every-if (KeepsPartsOf (pair strict l r)) (terminates l) xs
+    (every-implies (KeepsPartsOf r) (KeepsPartsOf (pair strict l r)) (of-whole r (pair strict l r) (λ q. pair-right)) xs h)
 on-right-keeps-parts seq l r d xs h =
     let left = of-whole l (pair seq l r) (λ q. pair-left) (passed l d) (prune-keeps-parts l d) in
-    all-if (KeepsPartsOf (pair seq l r)) (letsPass l d) (map (newPair seq (passed l d)) xs)
-    (all-map (KeepsPartsOf r) (KeepsPartsOf (pair seq l r)) (newPair seq (passed l d))
+    every-if (KeepsPartsOf (pair seq l r)) (letsPass l d) (map (newPair seq (passed l d)) xs)
+    (every-map (KeepsPartsOf r) (KeepsPartsOf (pair seq l r)) (newPair seq (passed l d))
     (λ x g. (left, of-whole r (pair seq l r) (λ q. pair-right) x g)) xs h)
 on-right-keeps-parts par l r d xs h =
-    all-map (KeepsPartsOf r) (KeepsPartsOf (pair par l r)) (newPair par (kept l))
+    every-map (KeepsPartsOf r) (KeepsPartsOf (pair par l r)) (newPair par (kept l))
     (λ x g. (pair-left itself, of-whole r (pair par l r) (λ q. pair-right) x g)) xs h
 
 begun-keeps-parts : (k : Loop) (b : Chart) (x : Made) → KeepsPartsOf b x → KeepsPartsOf (loop k b) (begun k b x)
@@ -153,19 +132,19 @@ after-round-keeps-parts (each par) b d x h = begun-keeps-parts (each par) b x h
 after-round-keeps-parts head b d x h = begun-keeps-parts head b x h
 
 -- "Parts kept as they stand take none": each such part of a follow-up is a part of the chart.
-pub follows-keep-parts : (c : Chart) (a : Action) → All (KeepsPartsOf c) (follows c a)
+pub follows-keep-parts : (c : Chart) (a : Action) → Every (KeepsPartsOf c) (follows c a)
 unfolding follows
 follows-keep-parts empty a = tt
-follows-keep-parts (act b) a = all-if (KeepsPartsOf (act b)) (same a b) (newEmpty ∷ []) (tt, tt)
+follows-keep-parts (act b) a = every-if (KeepsPartsOf (act b)) (same a b) (newEmpty ∷ []) (tt, tt)
 follows-keep-parts (alt l r) a =
-    all-append (KeepsPartsOf (alt l r)) (follows l a) (follows r a)
-    (all-implies (KeepsPartsOf l) (KeepsPartsOf (alt l r)) (of-whole l (alt l r) (λ q. alt-left)) (follows l a) (follows-keep-parts l a))
-    (all-implies (KeepsPartsOf r) (KeepsPartsOf (alt l r)) (of-whole r (alt l r) (λ q. alt-right)) (follows r a) (follows-keep-parts r a))
+    every-append (KeepsPartsOf (alt l r)) (follows l a) (follows r a)
+    (every-implies (KeepsPartsOf l) (KeepsPartsOf (alt l r)) (of-whole l (alt l r) (λ q. alt-left)) (follows l a) (follows-keep-parts l a))
+    (every-implies (KeepsPartsOf r) (KeepsPartsOf (alt l r)) (of-whole r (alt l r) (λ q. alt-right)) (follows r a) (follows-keep-parts r a))
 follows-keep-parts (pair o l r) a =
-    all-append (KeepsPartsOf (pair o l r)) (map (λ x. newPair o x (kept r)) (follows l a)) (onRight o l (a .line) (follows r a))
-    (all-map (KeepsPartsOf l) (KeepsPartsOf (pair o l r)) (λ x. newPair o x (kept r))
+    every-append (KeepsPartsOf (pair o l r)) (map (λ x. newPair o x (kept r)) (follows l a)) (onRight o l (a .line) (follows r a))
+    (every-map (KeepsPartsOf l) (KeepsPartsOf (pair o l r)) (λ x. newPair o x (kept r))
     (λ x h. (of-whole l (pair o l r) (λ q. pair-left) x h, pair-right itself)) (follows l a) (follows-keep-parts l a))
     (on-right-keeps-parts o l r (a .line) (follows r a) (follows-keep-parts r a))
 follows-keep-parts (loop k b) a =
-    all-map (KeepsPartsOf b) (KeepsPartsOf (loop k b)) (afterRound k b (a .line))
+    every-map (KeepsPartsOf b) (KeepsPartsOf (loop k b)) (afterRound k b (a .line))
     (after-round-keeps-parts k b (a .line)) (follows b a) (follows-keep-parts b a)

@@ -3,6 +3,7 @@ pub mod Tests
 pub mod Deals
 pub mod Evading
 pub mod Pruning
+pub mod Each
 pub mod Keeping
 pub mod Growing
 pub mod Looping

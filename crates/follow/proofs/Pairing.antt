@@ -3,7 +3,7 @@
 -- Assumes nothing.
 use Prim.Native.Nat.{ℕ, _+_, _<_}
 use mathlib.Core.Bool.{Bool, true, false, cond}
-use mathlib.Core.List.{List, [], _∷_, _++_, map}
+use mathlib.Core.List.{List, [], _∷_, _++_, map, map-id}
 use mathlib.Core.Logic.{_≢_}
 use mathlib.Core.Path.{_≡_, refl, ap, sym, subst}
 use native.Mathlib.Omega.{arith}
@@ -35,11 +35,7 @@ pub follows-of-a-pair :
     → follows (paired q l r) a ≡ map (besideRight q r) (follows l a) ++ besideLeft q l (a .line) (follows r a)
 unfolding follows
 follows-of-a-pair (composed o) l r a = refl
-follows-of-a-pair choice l r a = ap (λ xs. xs ++ follows r a) (sym (map-as-it-is (follows l a)))
-  where
-    map-as-it-is : (xs : List Made) → map (λ x. x) xs ≡ xs
-    map-as-it-is [] = refl
-    map-as-it-is (x ∷ xs) = ap (λ ys. x ∷ ys) (map-as-it-is xs)
+follows-of-a-pair choice l r a = ap (λ xs. xs ++ follows r a) (sym (map-id (follows l a)))
 
 -- Of an alt the left side's follow-up alone remains; in any other pair the side is replaced.
 pub left-alone :

@@ -25,17 +25,17 @@ actionOf a = record { line = a .lifeline; receives = a .receives; message = a .m
 
 -- Places in a room of that length are counted to the first number that exceeds it.
 abbrev pub counted : ℕ → ℕ → ℕ
-counted length n = min n (suc length)
+counted long n = min n (suc long)
 
 -- The room with a node more, in the first place that is not in use. Beyond its end nothing is written.
 abbrev pub added : List ℕ → ℕ → Node → List ℕ
 added room used n = set room used (wordOf n)
 
--- The root of a part that has just got its last node, there.
+-- The root of a part whose last node has just been added there.
 abbrev pub rootAt : List ℕ → ℕ → Root
 rootAt room used = record { place = used; used = counted (length room) (used + 1) }
 
--- A part has its root in a table, if it did not exceed the room.
+-- The places in use with a part are a table, and its root is one of them unless the part exceeded the room.
 pub record Held (room : List ℕ) (root : Root) : Type 0 where
   pub table : Table room (root .used)
   pub below : root .used ≤ length room → root .place < root .used

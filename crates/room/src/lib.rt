@@ -1,5 +1,5 @@
 // What stands in a room and what is answered of it. What the numbers of a room mean is said in specs/Room.antt, and
-// what the answers mean in specs/Building.antt. The code is in the crates `places`, `pruning` and `follow`.
+// what the answers mean in specs/Building.antt. The code is in the crates `places`, `laying`, `pruning` and `follow`.
 
 // An action of a log.
 pub struct Action {
