@@ -104,21 +104,19 @@ pub fn prune(room: &mut [u32], place: u32, lifeline: u32, used: u32) -> Pruned
     ensures { λ r.
         ⌜ Prunes (now (room .entry)) used (chartIn (now (room .entry)) place) lifeline (now (room .exit)) r ⌝ }
 {
+    let itself = Pruned::Part(Root {
+        place: place,
+        used: used,
+    });
     let node = places::read(room, place);
     let kind = node.kind;
     match kind {
-        Node::EMPTY => Pruned::Part(Root {
-            place: place,
-            used: used,
-        }),
+        Node::EMPTY => itself,
         Node::EMISSION..=Node::RECEPTION => {
             if node.a == lifeline {
                 return Pruned::Nothing;
             }
-            Pruned::Part(Root {
-                place: place,
-                used: used,
-            })
+            itself
         }
         Node::STRICT..=Node::ALT => {
             let left = prune(room, node.a, lifeline, used);
@@ -135,9 +133,6 @@ pub fn prune(room: &mut [u32], place: u32, lifeline: u32, used: u32) -> Pruned
             let body = prune(room, node.a, lifeline, used);
             Pruned::Part(loop_of(room, kind, body, used))
         }
-        _ => Pruned::Part(Root {
-            place: place,
-            used: used,
-        }),
+        _ => itself,
     }
 }
