@@ -40,15 +40,7 @@ fn on_action(room: &mut [u32], node: Node, action: Action, k: u32, used: u32) ->
 {
     if is(node, action) {
         if k == 0 {
-            return Executed::FollowUp(places::add(
-                room,
-                Node {
-                    kind: Node::EMPTY,
-                    a: 0,
-                    b: 0,
-                },
-                used,
-            ));
+            return Executed::FollowUp(places::add(room, Node::EMPTY, 0, 0, used));
         }
         return Executed::Missing(k - 1);
     }
@@ -67,15 +59,7 @@ fn on_left(room: &mut [u32], node: Node, x: Root) -> Root
     if kind == Node::ALT {
         return x;
     }
-    places::add(
-        room,
-        Node {
-            kind: kind,
-            a: x.place,
-            b: node.b,
-        },
-        x.used,
-    )
+    places::add(room, kind, x.place, node.b, x.used)
 }
 
 // The right side of a strict: only if the left terminates, and the right's follow-up alone remains.
@@ -111,15 +95,7 @@ fn right_of_seq(room: &mut [u32], left: u32, lifeline: u32, k: u32, right: Execu
     let Pruned::Part(part) = pruned else {
         return Executed::Missing(k);
     };
-    Executed::FollowUp(places::add(
-        room,
-        Node {
-            kind: Node::SEQ,
-            a: part.place,
-            b: x.place,
-        },
-        part.used,
-    ))
+    Executed::FollowUp(places::add(room, Node::SEQ, part.place, x.place, part.used))
 }
 
 // The right side of a par is replaced.
@@ -133,15 +109,7 @@ fn right_of_par(room: &mut [u32], left: u32, right: Executed) -> Executed
     let Executed::FollowUp(x) = right else {
         return right;
     };
-    Executed::FollowUp(places::add(
-        room,
-        Node {
-            kind: Node::PAR,
-            a: left,
-            b: x.place,
-        },
-        x.used,
-    ))
+    Executed::FollowUp(places::add(room, Node::PAR, left, x.place, x.used))
 }
 
 // Whether an answer says that there is no occurrence at all, so many having been to be passed over.
@@ -198,29 +166,13 @@ fn after_round(room: &mut [u32], place: u32, lifeline: u32, x: Root) -> Root
 {
     let node = places::read(room, place);
     let kind = node.kind;
-    let begun = places::add(
-        room,
-        Node {
-            kind: between_rounds(kind),
-            a: x.place,
-            b: place,
-        },
-        x.used,
-    );
+    let begun = places::add(room, between_rounds(kind), x.place, place, x.used);
     if kind != Node::WEAK_LOOP {
         return begun;
     }
     let body = pruning::prune(room, node.a, lifeline, begun.used);
     let front = pruning::loop_of(room, kind, body, begun.used);
-    places::add(
-        room,
-        Node {
-            kind: Node::SEQ,
-            a: front.place,
-            b: begun.place,
-        },
-        front.used,
-    )
+    places::add(room, Node::SEQ, front.place, begun.place, front.used)
 }
 
 // Occurrence k of an action from left to right, counted from 0, executed: its follow-up above the places in use; or how

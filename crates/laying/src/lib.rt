@@ -27,7 +27,8 @@ pub fn lay(card: &[u8], room: &mut [u32]) -> Laid
     let mut root = Root { place: 0, used: 0 };
     let mut i = 0;
     while i < count {
-        root = places::add(room, parts::node_at(nodes, i), i as u32);
+        let node = parts::node_at(nodes, i);
+        root = places::add(room, node.kind, node.a, node.b, i as u32);
         i += 1;
     }
     Laid::Whole(root)

@@ -17,12 +17,19 @@ pub fn read(room: &[u32], place: u32) -> Node
 }
 
 // A node more, in the first place that is not in use. A room that is full stays as it is, and is counted as exceeded.
-pub fn add(room: &mut [u32], node: Node, used: u32) -> Root
+pub fn add(room: &mut [u32], kind: u32, a: u32, b: u32, used: u32) -> Root
     requires { ⌜ Table (now room) used ⌝ }
-    ensures { λ r. ⌜ r ≡ rootAt (now (room .entry)) used × now (room .exit) ≡ added (now (room .entry)) used node ⌝ }
+    ensures { λ r.
+        ⌜ r ≡ rootAt (now (room .entry)) used
+        × now (room .exit) ≡ added (now (room .entry)) used (record { kind = kind; a = a; b = b }) ⌝ }
 {
     let at = used as usize;
     if at < room.len() {
+        let node = Node {
+            kind: kind,
+            a: a,
+            b: b,
+        };
         room[at] = node.pack();
         return Root {
             place: used,

@@ -59,15 +59,7 @@ fn pair_of(room: &mut [u32], kind: u32, left: Root, right: Pruned) -> Pruned
         }
         return Pruned::Nothing;
     };
-    Pruned::Part(places::add(
-        room,
-        Node {
-            kind: kind,
-            a: left.place,
-            b: part.place,
-        },
-        part.used,
-    ))
+    Pruned::Part(places::add(room, kind, left.place, part.place, part.used))
 }
 
 // What is left of a loop, by what is left of its body: a loop of that, or an empty.
@@ -77,25 +69,9 @@ pub fn loop_of(room: &mut [u32], kind: u32, body: Pruned, used: u32) -> Root
         ⌜ r ≡ loopOf (now (room .entry)) body used × now (room .exit) ≡ loopIn (now (room .entry)) kind body used ⌝ }
 {
     let Pruned::Part(root) = body else {
-        return places::add(
-            room,
-            Node {
-                kind: Node::EMPTY,
-                a: 0,
-                b: 0,
-            },
-            used,
-        );
+        return places::add(room, Node::EMPTY, 0, 0, used);
     };
-    places::add(
-        room,
-        Node {
-            kind: kind,
-            a: root.place,
-            b: 0,
-        },
-        root.used,
-    )
+    places::add(room, kind, root.place, 0, root.used)
 }
 
 // A part pruned by a lifeline, its new nodes placed from `used` on; nothing if it does not evade the lifeline.

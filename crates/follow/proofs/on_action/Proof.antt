@@ -24,8 +24,8 @@ returns c =
     (c .before .before .before .before .before .if1 .taken) (c .before .before .before .before .if2 .taken)
     (c .before .before .before .before .before .before .before .before .pre))
 
-sub-t12 : tie.Need-sub-t12
-sub-t12 c = omega arith
+sub-t11 : tie.Need-sub-t11
+sub-t11 c = omega arith
 
 returns-2 : tie.Need-returns-2
 returns-2 c =
@@ -42,4 +42,4 @@ returns-3 c =
     (c .if1 .left)
 
 pub on-action-spec : {M : Type 1} → statement M
-on-action-spec = tie.close (tie.spec is-requires add-requires same-length returns sub-t12 returns-2 returns-3)
+on-action-spec = tie.close (tie.spec is-requires add-requires same-length returns sub-t11 returns-2 returns-3)

@@ -31,7 +31,7 @@ loop-holds : tie.Need-loop-holds Inv-loop μ-loop
 loop-holds c = (omega arith, refl, refl)
 
 node-at-requires : tie.Need-node-at-requires Inv-loop μ-loop
-node-at-requires c κs = omega (arith, c .before .before .before .before .count .ensures)
+node-at-requires c κs = omega (arith, c .before .before .before .count .ensures)
 
 cast-add : tie.Need-cast-add Inv-loop μ-loop
 cast-add c =
@@ -60,7 +60,7 @@ loop-again c =
     let s = l .before .before .before .before .before .before .args in
     let nodes = l .before .before .before .nodes in
     let at = l .loop in
-    let node = c .before .before .before .node-at in
+    let node = c .before .before .before .before .node-at in
     let added = c .before .before .add in
     let so-far = at .inv .1 in
     let enough : at .i < length (s .room .now) = omega arith in

@@ -16,8 +16,8 @@ mul-room c = omega (arith, c .before .before .before .pre .usable)
 slice-write-room : tie.Need-slice-write-room
 slice-write-room c = omega arith
 
-add-t7 : tie.Need-add-t7
-add-t7 c = omega (arith, c .before .before .before .pre .usable)
+add-t10 : tie.Need-add-t10
+add-t10 c = omega (arith, c .before .before .before .pre .usable)
 
 same-length : tie.Need-same-length
 same-length c =
@@ -28,18 +28,18 @@ returns c =
     let s = c .before .before .before .args in
     (sym (root-inside (s .room .now) (s .used) (omega arith)), ap (set (s .room .now) (s .used)) (c .pack .ensures))
 
-cast-t10 : tie.Need-cast-t10
-cast-t10 c = omega (arith, c .before .before .pre .usable)
+cast-t13 : tie.Need-cast-t13
+cast-t13 c = omega (arith, c .before .before .pre .usable)
 
-add-t11 : tie.Need-add-t11
-add-t11 c = omega (arith, c .before .before .pre .usable)
+add-t14 : tie.Need-add-t14
+add-t14 c = omega (arith, c .before .before .pre .usable)
 
 returns-2 : tie.Need-returns-2
 returns-2 c =
     let s = c .before .before .args in
     let full = c .if1 .left in (
       sym (root-beyond (s .room .now) (s .used) (omega arith)),
-      sym (nothing-added (s .room .now) (s .used) (s .node) (omega arith)),
+      sym (nothing-added (s .room .now) (s .used) (record { kind = s .kind; a = s .a; b = s .b }) (omega arith)),
     )
 
 pub add-spec : {M : Type 1} → statement M
@@ -49,9 +49,9 @@ add-spec =
     pack-requires
     mul-room
     slice-write-room
-    add-t7
+    add-t10
     same-length
     returns
-    cast-t10
-    add-t11
+    cast-t13
+    add-t14
     returns-2)

@@ -1,4 +1,5 @@
 -- `loop_of` meets its contract, by the case of each return. Assumes nothing.
+
 use Rattle.pruning.proofs.loop_of.Statement.{statement}
 use Rattle.pruning.proofs.loop_of.Tie as tie
 
