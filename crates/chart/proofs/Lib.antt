@@ -12,6 +12,7 @@ pub mod Following
 pub mod Exploring
 pub mod Extending
 pub mod Walking
+pub mod Deepest
 pub mod Spending
 pub mod Numbers
 pub mod Agreement

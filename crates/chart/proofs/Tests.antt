@@ -1,9 +1,10 @@
--- Tests that are joined by `&&`, `||` and `not`, as types and back.
+-- Tests that are joined by `&&`, `||` and `not`, as types and back; and tests that code makes.
 -- Assumes nothing.
-use mathlib.Core.Bool.{Bool, true, false, _&&_, _||_}
+use mathlib.Core.Bool.{Bool, true, false, _&&_, _||_, not}
 use mathlib.Core.Logic.{_⊎_, inl, inr}
-use mathlib.Core.Path.{_≡_, refl}
+use mathlib.Core.Path.{_≡_, refl, _∙_, sym}
 use lib.Dec.{T}
+use borrow.Author.Tests.{not-true, not-false}
 
 pub both→ : (p q : Bool) → T (p && q) → T p × T q
 both→ true q h = (tt, h)
@@ -34,3 +35,10 @@ passes false h = absurd h
 pub both-true : (p q : Bool) → (p && q) ≡ true → (p ≡ true) × (q ≡ true)
 both-true true q h = (refl, h)
 both-true false q h = (h, cc)
+
+-- Code asks whether a call did not answer yes; `r` is what it answered, p what it ensures.
+pub test-failed : {p r : Bool} → r ≡ p → not r ≡ true → p ≡ false
+test-failed {p} {r} e h = sym e ∙ not-true r h
+
+pub test-passed : {p r : Bool} → r ≡ p → not r ≡ false → p ≡ true
+test-passed {p} {r} e h = sym e ∙ not-false r h

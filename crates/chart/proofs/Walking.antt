@@ -30,6 +30,18 @@ verdict long o s p = told long (ending o s p)
 abbrev pub verdictOf : Chart → Log → Answer
 verdictOf c t = verdict (length t) (searched c t) (stepsOf c t) (placesOf c t)
 
+-- What keeps a stop as it is.
+abbrev pub KeepsStops : (Ending → Ending) → Type 0
+KeepsStops f = (number s p : ℕ) → f (stopped number s p) ≡ stopped number s p
+
+-- It can be done after a follow-up, or to how it goes on.
+pub follow-up-then : (f : Ending → Ending) → KeepsStops f → (b e : Bool) (n : ℕ) (on : ℕ → ℕ → Ending) (s p : ℕ)
+    → f (followUp b e n on s p) ≡ followUp b e n (λ s p. f (on s p)) s p
+follow-up-then f h true true n on s p = h 9 s p
+follow-up-then f h true false n on s p = h 9 s p
+follow-up-then f h false true n on s p = h 10 s p
+follow-up-then f h false false n on s p = refl
+
 module _ (allowance room : ℕ) where
   -- The next follow-up, to n places, and then how it goes on.
   abbrev pub next : ℕ → (ℕ → ℕ → Ending) → ℕ → ℕ → Ending
@@ -61,17 +73,6 @@ module _ (allowance room : ℕ) where
   spend-append [] more on s p = refl
   spend-append (n ∷ run) more on s p =
       next-alike n (spend (run ++ more) on) (spend run (spend more on)) (spend-append run more on) s p
-
-  -- what keeps a stop as it is
-  abbrev KeepsStops : (Ending → Ending) → Type 0
-  KeepsStops f = (number s p : ℕ) → f (stopped number s p) ≡ stopped number s p
-
-  follow-up-then : (f : Ending → Ending) → KeepsStops f → (b e : Bool) (n : ℕ) (on : ℕ → ℕ → Ending) (s p : ℕ)
-      → f (followUp b e n on s p) ≡ followUp b e n (λ s p. f (on s p)) s p
-  follow-up-then f h true true n on s p = h 9 s p
-  follow-up-then f h true false n on s p = h 9 s p
-  follow-up-then f h false true n on s p = h 10 s p
-  follow-up-then f h false false n on s p = refl
 
   spend-then : (f : Ending → Ending) → KeepsStops f → (run : List ℕ) (on : ℕ → ℕ → Ending)
       → Alike (λ s p. f (spend run on s p)) (spend run (λ s p. f (on s p)))

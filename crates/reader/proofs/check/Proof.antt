@@ -3,7 +3,7 @@
 use mathlib.Core.Path.{_≡_, sym, _∙_}
 use native.Mathlib.Omega.{arith}
 use Rattle.card.specs.Faultless.{Faultless}
-use Rattle.reader.proofs.Tests.{failed, passed}
+use Rattle.chart.proofs.Tests.{test-failed, test-passed}
 use Rattle.card.proofs.Relied.{few-nodes, few-lifelines, back→, faultless, found-of-the-card}
 use Rattle.card.proofs.Answers.{Passed, faults, answer-one, answer-two, answer-three}
 use Rattle.card.proofs.Answers.{answer-four, answer-five, answer-six, answer-sound}
@@ -15,10 +15,10 @@ passed-so-far : (c : tie.After-nodes) → Passed
     (c .before .before .before .before .before .before .before .before .args .card .now)
 passed-so-far c =
     record {
-      one = passed (c .before .before .before .before .before .before .is-framed .ensures)
+      one = test-passed (c .before .before .before .before .before .before .is-framed .ensures)
           (c .before .before .before .before .before .if1 .left);
-      two = passed (c .before .before .before .before .is-back-in-rule .ensures) (c .before .before .before .if2 .left);
-      three = passed (c .before .before .are-counts-in-range .ensures) (c .before .if3 .left);
+      two = test-passed (c .before .before .before .before .is-back-in-rule .ensures) (c .before .before .before .if2 .left);
+      three = test-passed (c .before .before .are-counts-in-range .ensures) (c .before .if3 .left);
     }
 
 -- What was found of the nodes was found of the card.
@@ -52,7 +52,7 @@ refused-requires c κs = tt
 returns : tie.Need-returns
 returns c =
     c .refused .ensures ∙ sym (answer-one (c .before .before .before .before .args .card .now)
-    (failed (c .before .before .is-framed .ensures) (c .before .if1 .taken)))
+    (test-failed (c .before .before .is-framed .ensures) (c .before .if1 .taken)))
 
 is-back-in-rule-requires : tie.Need-is-back-in-rule-requires
 is-back-in-rule-requires c κs = tt
@@ -65,8 +65,8 @@ returns-2 c =
     c .refused2 .ensures
     ∙ sym
     (answer-two (c .before .before .before .before .before .before .args .card .now)
-    (passed (c .before .before .before .before .is-framed .ensures) (c .before .before .before .if1 .left))
-    (failed (c .before .before .is-back-in-rule .ensures) (c .before .if2 .taken)))
+    (test-passed (c .before .before .before .before .is-framed .ensures) (c .before .before .before .if1 .left))
+    (test-failed (c .before .before .is-back-in-rule .ensures) (c .before .if2 .taken)))
 
 are-counts-in-range-requires : tie.Need-are-counts-in-range-requires
 are-counts-in-range-requires c κs = tt
@@ -79,10 +79,10 @@ returns-3 c =
     c .refused3 .ensures
     ∙ sym
     (answer-three (c .before .before .before .before .before .before .before .before .args .card .now)
-    (passed (c .before .before .before .before .before .before .is-framed .ensures)
+    (test-passed (c .before .before .before .before .before .before .is-framed .ensures)
     (c .before .before .before .before .before .if1 .left))
-    (passed (c .before .before .before .before .is-back-in-rule .ensures) (c .before .before .before .if2 .left))
-    (failed (c .before .before .are-counts-in-range .ensures) (c .before .if3 .taken)))
+    (test-passed (c .before .before .before .before .is-back-in-rule .ensures) (c .before .before .before .if2 .left))
+    (test-failed (c .before .before .are-counts-in-range .ensures) (c .before .if3 .taken)))
 
 nodes-requires : tie.Need-nodes-requires
 nodes-requires c κs = tt

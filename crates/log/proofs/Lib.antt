@@ -1,0 +1,3 @@
+-- Laws of logs.
+pub mod Actions
+pub mod Rules

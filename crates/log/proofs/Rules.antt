@@ -1,0 +1,37 @@
+-- What the rules of a log leave to rely on, and what a loop over its actions has found where one is declared and where
+-- one is not.
+-- Assumes nothing.
+use Prim.Native.Nat.{ℕ, _+_, _%_, _<_, _≤_}
+use mathlib.Core.Bool.{true, false, cond}
+use mathlib.Core.List.{List}
+use mathlib.Core.Path.{_≡_, ap}
+use native.Mathlib.Omega.{arith}
+use lib.Dec.{eqb, leb}
+use lib.ListN.{length}
+use borrow.Author.Tests.{eqb-true, leb-true}
+use Rattle.chart.proofs.Tests.{both-true}
+use Rattle.card.specs.declared.Finding.the-variants.{Fine, Refused}
+use Rattle.card.specs.Findings.{lowest}
+use Rattle.card.proofs.Lowest.{fine-so-far, found-here}
+use Rattle.log.specs.Bytes.{actionAt}
+use Rattle.log.specs.Refusing.{inRule, declared, undeclaredOf}
+
+module _ (log : List ℕ) (passed : inRule log ≡ true) where
+  pub in-rule-is-even : length log % 2 ≡ 0
+  in-rule-is-even =
+      eqb-true (length log % 2) 0 (both-true (eqb (length log % 2) 0) (leb (length log) 256) passed .0)
+
+  pub in-rule-is-short : length log ≤ 256
+  in-rule-is-short = leb-true (length log) 256 (both-true (eqb (length log % 2) 0) (leb (length log) 256) passed .1)
+
+module _ (lifelines messages : ℕ) (log : List ℕ) (i : ℕ)
+    (before : lowest (undeclaredOf lifelines messages log) i ≡ Fine) where
+  pub declared-goes-on : declared lifelines messages (actionAt log i) ≡ true
+      → lowest (undeclaredOf lifelines messages log) (i + 1) ≡ Fine
+  declared-goes-on e = fine-so-far (undeclaredOf lifelines messages log) i before (ap (λ b. cond b 0 8) e)
+
+  pub undeclared-is-found : (n : ℕ) → i < n → declared lifelines messages (actionAt log i) ≡ false
+      → lowest (undeclaredOf lifelines messages log) n ≡ Refused 8 i
+  undeclared-is-found n h e =
+      let here : undeclaredOf lifelines messages log i ≡ 8 = ap (λ b. cond b 0 8) e in
+      rw here at (found-here (undeclaredOf lifelines messages log) i n h before (λ z. omega arith))

@@ -1,0 +1,23 @@
+-- `check` meets its contract: 7 where the length is out of rule, else what is found of the actions. Assumes nothing.
+use Rattle.log.proofs.Rules.{in-rule-is-short}
+use Rattle.chart.proofs.Tests.{test-failed, test-passed}
+use Rattle.log.proofs.check.Statement.{statement}
+use Rattle.log.proofs.check.Tie as tie
+
+is-in-rule-requires : tie.Need-is-in-rule-requires
+is-in-rule-requires c κs = tt
+
+returns : tie.Need-returns
+returns c = rw (test-failed (c .before .is-in-rule .ensures) (c .if1 .taken))
+
+lowest-undeclared-requires : tie.Need-lowest-undeclared-requires
+lowest-undeclared-requires c κs =
+    in-rule-is-short (c .before .before .before .args .log .now) (test-passed (c .before .is-in-rule .ensures)
+    (c .if1 .left))
+
+returns-2 : tie.Need-returns-2
+returns-2 c =
+    rw (test-passed (c .before .before .is-in-rule .ensures) (c .before .if1 .left)) (c .lowest-undeclared .ensures)
+
+pub check-spec : {M : Type 1} → statement M
+check-spec = tie.close (tie.spec is-in-rule-requires returns lowest-undeclared-requires returns-2)

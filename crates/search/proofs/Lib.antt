@@ -1,0 +1,4 @@
+-- Laws of searching.
+pub mod Turns
+pub mod Trying
+pub mod Searching

@@ -1,0 +1,121 @@
+// The search of a log in a chart (01, "How a log is executed"): depth first, occurrences of the next action from left to
+// right, under an allowance of steps and in a room of places.
+ghost use mathlib.Core.Bool.{cond};
+ghost use mathlib.Core.Path.{_≡_};
+ghost use Prim.Native.Nat.{max, _<_, _≤_};
+ghost use lib.ListN.{length};
+ghost use Rattle.chart.specs.Executing.{terminates};
+ghost use Rattle.room.specs.Room.{chartIn, Table, Rooted};
+ghost use Rattle.room.specs.Building.{Held};
+ghost use Rattle.log.specs.Bytes.{logOf};
+ghost use Rattle.search.specs.Ending.{Searches, Attempts};
+ghost use Rattle.search.specs.declared.Ended.the-variants.{Found, Failed};
+use room::Executed;
+use room::Root;
+
+// How a search ends, each with the allowance left and the most places in use: it found an accepting path; or every
+// choice failed, with the most actions executed on one path; or it was stopped, with its number.
+pub enum Ended {
+    Found {
+        left: u32,
+        places: u32,
+    },
+    Failed {
+        deepest: u32,
+        left: u32,
+        places: u32,
+    },
+    Stopped {
+        number: u32,
+        left: u32,
+        places: u32,
+    },
+}
+
+fn larger(x: u32, y: u32) -> u32
+    ensures { λ r. ⌜ r ≡ max x y ⌝ }
+{
+    if x < y { y } else { x }
+}
+
+// At the log's end a terminating chart accepts.
+fn at_end(room: &[u32], place: u32, left: u32, places: u32) -> Ended
+    requires { ⌜ Rooted (now room) place ⌝ }
+    ensures { λ r.
+        ⌜ r ≡ cond (terminates (chartIn (now (room .entry)) place)) (Found left places) (Failed 0 left places) ⌝ }
+{
+    if pruning::terminates(room, place) {
+        return Ended::Found { left, places };
+    }
+    Ended::Failed {
+        deepest: 0,
+        left,
+        places,
+    }
+}
+
+// One choice: its follow-up is x, which may exceed the room. Before it counts 9 is asked, then 10; then it is a step,
+// and the search goes on from it with the rest of the log.
+fn attempt(rest: &[u8], room: &mut [u32], x: Root, allowance: u32, places: u32) -> Ended
+    requires { ⌜ Held (now room) x × length (now rest) ≤ 256 ⌝ }
+    ensures { λ r.
+        ⌜ Attempts (now (room .entry)) (logOf (now (rest .entry))) x allowance places (now (room .exit)) r ⌝ }
+{
+    if allowance == 0 {
+        return Ended::Stopped {
+            number: 9,
+            left: allowance,
+            places,
+        };
+    }
+    if room.len() < x.used as usize {
+        return Ended::Stopped {
+            number: 10,
+            left: allowance,
+            places,
+        };
+    }
+    search(rest, room, x, allowance - 1, larger(places, x.used))
+}
+
+// The search of a log in the chart at a root. Each occurrence of its first action is a choice; the places of one that
+// failed are free again for the next.
+pub fn search(log: &[u8], room: &mut [u32], root: Root, allowance: u32, places: u32) -> Ended
+    requires { ⌜ Table (now room) (root .used) × Rooted (now room) (root .place) × root .place < root .used
+        × length (now log) ≤ 256 ⌝ }
+    ensures { λ r.
+        ⌜ Searches (now (room .entry)) (logOf (now (log .entry))) root allowance places (now (room .exit)) r ⌝ }
+{
+    if log.len() < log::ACTION_BYTES {
+        return at_end(room, root.place, allowance, places);
+    }
+    let action = log::action_at(log, 0);
+    let rest = &log[log::ACTION_BYTES..log.len()];
+    let mut deepest = 0;
+    let mut left = allowance;
+    let mut most = places;
+    let mut k = 0;
+    loop {
+        let answer = follow::execute(room, root.place, action, k, root.used);
+        let Executed::FollowUp(x) = answer else {
+            return Ended::Failed {
+                deepest,
+                left,
+                places: most,
+            };
+        };
+        let ended = attempt(rest, room, x, left, most);
+        let Ended::Failed {
+            deepest: beyond,
+            left: l,
+            places: p,
+        } = ended
+        else {
+            return ended;
+        };
+        deepest = larger(deepest, 1 + beyond);
+        left = l;
+        most = p;
+        k += 1;
+    }
+}
