@@ -110,7 +110,42 @@ pub record Task : Type 0 where
   pub rest : List ℕ
   pub starts : logOf log ≡ actionOf action ∷ logOf rest
 
-module _ (w : Task) where
+-- What it has come to after the choices up to number k.
+abbrev pub Going : Task → List ℕ → ℕ → ℕ → ℕ → ℕ → Type 0
+Going w = SoFar (w .room) (actionOf (w .action)) (logOf (w .rest)) (w .root) (w .allowance) (w .places)
+
+-- A turn of the search: choice k is next.
+pub record Turn : Type 0 where
+  pub task : Task
+  pub room : List ℕ
+  pub deepest : ℕ
+  pub left : ℕ
+  pub most : ℕ
+  pub k : ℕ
+  pub so-far : Going task room deepest left most k
+
+module _ (u : Turn) where
+  abbrev w : Task
+  w = u .task
+
+  abbrev room : List ℕ
+  room = u .room
+
+  abbrev deepest : ℕ
+  deepest = u .deepest
+
+  abbrev left : ℕ
+  left = u .left
+
+  abbrev most : ℕ
+  most = u .most
+
+  abbrev k : ℕ
+  k = u .k
+
+  abbrev so-far : Going w room deepest left most k
+  so-far = u .so-far
+
   abbrev a : chart.Action
   a = actionOf (w .action)
 
@@ -128,10 +163,6 @@ module _ (w : Task) where
   abbrev Done : List ℕ → Ended → Type 0
   Done after r = Searches (w .room) (logOf (w .log)) (w .root) (w .allowance) (w .places) after r
 
-  -- What it has come to so far.
-  abbrev Going : List ℕ → ℕ → ℕ → ℕ → ℕ → Type 0
-  Going = SoFar (w .room) a (logOf (w .rest)) (w .root) (w .allowance) (w .places)
-
   -- What the definition finds from choice k on.
   abbrev next : ℕ → ℕ → ℕ → ℕ → Ending
   next = onward (w .room) a (logOf (w .rest)) (w .root) (w .allowance) (w .places)
@@ -144,123 +175,122 @@ module _ (w : Task) where
   sought steps =
       walk (all steps) (length (w .room)) (logOf (w .log)) (chartIn (w .room) place) used steps (w .places)
 
-  module _ (room : List ℕ) (deepest left most k : ℕ) (so-far : Going room deepest left most k) where
-    abbrev occurrences : List Made
-    occurrences = follows (chartIn room place) a
+  -- The occurrences that are found in the room,
+  abbrev pub occurrences : List Made
+  occurrences = follows (chartIn room place) a
 
-    -- The chart at the root stands as it did.
-    same-choices : occurrences ≡ wanted
-    same-choices =
-        ap (λ c. follows c a) (kept-chart used (w .room) room (so-far .kept) place (w .below) (w .rooted .inside))
+  -- are the choices: the chart at the root stands as it did.
+  same-choices : occurrences ≡ wanted
+  same-choices =
+      ap (λ c. follows c a) (kept-chart used (w .room) room (so-far .kept) place (w .below) (w .rooted .inside))
 
-    sought-onward : (steps : ℕ) → sought steps ≡ deepened deepest (next (all steps) k (all steps - left) most)
-    sought-onward steps =
-        ap (λ t. walk (all steps) (length (w .room)) t (chartIn (w .room) place) used steps (w .places)) (w .starts)
-        ∙ so-far .ends steps
+  sought-onward : (steps : ℕ) → sought steps ≡ deepened deepest (next (all steps) k (all steps - left) most)
+  sought-onward steps =
+      ap (λ t. walk (all steps) (length (w .room)) t (chartIn (w .room) place) used steps (w .places)) (w .starts)
+      ∙ so-far .ends steps
 
-    -- What executing requires.
-    pub still-stands : Table room used × Rooted room place × place < used
-    still-stands = (
-      kept-table used (w .room) room (so-far .kept) (w .table),
-      kept-rooted used (w .room) room place (so-far .kept) (w .table) (w .rooted) (w .below),
-      w .below,
-    )
+  -- What executing requires.
+  pub still-stands : Table room used × Rooted room place × place < used
+  still-stands = (
+    kept-table used (w .room) room (so-far .kept) (w .table),
+    kept-rooted used (w .room) room place (so-far .kept) (w .table) (w .rooted) (w .below),
+    w .below,
+  )
 
-    module _ (after : List ℕ) where
-      -- There is no choice k.
-      pub no-choice-left :
-          (more : ℕ) → Follows room used occurrences k after (Missing more) → Done after (Failed deepest left most)
-      no-choice-left more given =
-          let none : length wanted ≤ k
-          = omega (arith, given .0, ap length same-choices) in
-          let last : max deepest 0 ≡ deepest = omega arith in
-          record {
-            kept = kept-then used used (w .room) room after (omega arith) (so-far .kept) (given .1);
-            left = omega (arith, so-far .taken);
-            ends = λ steps.
-                sym
-                (sought-onward steps
-                ∙ ap (deepened deepest)
-                (none-left (all steps) (length (w .room)) (goes (all steps) (logOf (w .rest)) (length (w .room))) used
-                wanted k none (all steps - left) most)
-                ∙ ap (λ d. failed d (all steps - left) most) last);
-          }
-
-      module _ (x : Root) (asked : Follows room used occurrences k after (FollowUp x)) where
-        given : Follows room used wanted k after (FollowUp x)
-        given = subst (λ xs. Follows room used xs k after (FollowUp x)) same-choices asked
-
-        -- There is a choice k.
-        pub choice-left : k < length wanted
-        choice-left = given .0
-
-        module _ (later : List ℕ) (r : Ended) (attempt : Attempts after (logOf (w .rest)) x left most later r) where
-          kept-later : Kept used (w .room) later
-          kept-later =
-              let grown : used ≤ x .used = omega (arith, given .1 .cost, w .table .counted, so-far .kept .long) in
-              kept-then used (x .used) (w .room) after later grown
-              (kept-then used used (w .room) room after (omega arith) (so-far .kept) (given .1 .kept)) (attempt .kept)
-
-          no-more : leftOf r ≤ left
-          no-more = leaves-no-more left r (attempt .left)
-
-          -- What was tried,
-          abbrev asked-for : ℕ → ℕ → Ending
-          asked-for n s =
-              followUp (leb n s) (ltb (length after) (x .used)) (x .used)
-              (goes n (logOf (w .rest)) (length after) (chartIn after (x .place)) (x .used)) s most
-
-          -- is choice k of the definition.
-          abbrev choice : ℕ → ℕ → ℕ → Ending
-          choice n s long =
-              tried n long (goes n (logOf (w .rest)) long) used
-              wanted k s most
-
-          tried-alike : (n s : ℕ) → s + left ≡ n → endingOf n r ≡ choice n s (length (w .room))
-          tried-alike n s e =
-              subst (λ m. endingOf m r ≡ asked-for m s) e (attempt .ends s)
-              ∙ same-choice n (logOf (w .rest)) room used
-              wanted k after x given (leb n s) s most
-              ∙ ap (choice n s) (so-far .kept .long)
-
-          -- What the definition finds is that, or what the choices after it come to.
-          found-alike : (steps : ℕ)
-              → sought steps ≡ deepened deepest (orNext (endingOf (all steps) r) (next (all steps) (suc k)))
-          found-alike steps =
-              let s = all steps - left in
-              sought-onward steps
+  module _ (after : List ℕ) where
+    -- There is no choice k.
+    pub no-choice-left :
+        (more : ℕ) → Follows room used occurrences k after (Missing more) → Done after (Failed deepest left most)
+    no-choice-left more given =
+        let none : length wanted ≤ k = omega (arith, given .0, ap length same-choices) in
+        let last : max deepest 0 ≡ deepest = omega arith in
+        record {
+          kept = kept-then used used (w .room) room after (omega arith) (so-far .kept) (given .1);
+          left = omega (arith, so-far .taken);
+          ends = λ steps.
+              sym
+              (sought-onward steps
               ∙ ap (deepened deepest)
-              (one-left (all steps) (length (w .room)) (goes (all steps) (logOf (w .rest)) (length (w .room))) used
-              wanted k (given .0) s most
-              ∙ ap (λ e. orNext e (next (all steps) (suc k)))
-              (sym (tried-alike (all steps) s (omega (arith, so-far .taken)))))
+              (none-left (all steps) (length (w .room)) (goes (all steps) (logOf (w .rest)) (length (w .room))) used
+              wanted k none (all steps - left) most)
+              ∙ ap (λ d. failed d (all steps - left) most) last);
+        }
 
-          -- It did not fail: the search ends as it did.
-          pub choice-settles : Settled r → Done later r
-          choice-settles settled =
-              record {
-                kept = kept-later;
-                left = omega (arith, no-more, so-far .taken);
-                ends = λ steps.
-                    settled-ends deepest (all steps) (next (all steps) (suc k)) r settled ∙ sym (found-alike steps);
-              }
+    module _ (x : Root) (asked : Follows room used occurrences k after (FollowUp x)) where
+      given : Follows room used wanted k after (FollowUp x)
+      given = subst (λ xs. Follows room used xs k after (FollowUp x)) same-choices asked
 
-        -- It failed: the search goes on with the next.
-        pub choice-fails :
-            (later : List ℕ) (beyond l p : ℕ) → Attempts after (logOf (w .rest)) x left most later (Failed beyond l p)
-            → Going later (max deepest (1 + beyond)) l p (k + 1)
-        choice-fails later beyond l p attempt =
-            let failing : Ended = Failed beyond l p in
-            let there : k + 1 ≡ suc k = omega arith in
-            let one : 1 + beyond ≡ suc beyond = omega arith in
+      -- There is a choice k.
+      pub choice-left : k < length wanted
+      choice-left = given .0
+
+      module _ (later : List ℕ) (r : Ended) (attempt : Attempts after (logOf (w .rest)) x left most later r) where
+        kept-later : Kept used (w .room) later
+        kept-later =
+            let grown : used ≤ x .used = omega (arith, given .1 .cost, w .table .counted, so-far .kept .long) in
+            kept-then used (x .used) (w .room) after later grown
+            (kept-then used used (w .room) room after (omega arith) (so-far .kept) (given .1 .kept)) (attempt .kept)
+
+        no-more : leftOf r ≤ left
+        no-more = leaves-no-more left r (attempt .left)
+
+        -- What was tried,
+        abbrev asked-for : ℕ → ℕ → Ending
+        asked-for n s =
+            followUp (leb n s) (ltb (length after) (x .used)) (x .used)
+            (goes n (logOf (w .rest)) (length after) (chartIn after (x .place)) (x .used)) s most
+
+        -- is choice k of the definition.
+        abbrev choice : ℕ → ℕ → ℕ → Ending
+        choice n s long =
+            tried n long (goes n (logOf (w .rest)) long) used
+            wanted k s most
+
+        tried-alike : (n s : ℕ) → s + left ≡ n → endingOf n r ≡ choice n s (length (w .room))
+        tried-alike n s e =
+            subst (λ m. endingOf m r ≡ asked-for m s) e (attempt .ends s)
+            ∙ same-choice n (logOf (w .rest)) room used
+            wanted k after x given (leb n s) s most
+            ∙ ap (choice n s) (so-far .kept .long)
+
+        -- What the definition finds is that, or what the choices after it come to.
+        found-alike : (steps : ℕ)
+            → sought steps ≡ deepened deepest (orNext (endingOf (all steps) r) (next (all steps) (suc k)))
+        found-alike steps =
+            let s = all steps - left in
+            sought-onward steps
+            ∙ ap (deepened deepest)
+            (one-left (all steps) (length (w .room)) (goes (all steps) (logOf (w .rest)) (length (w .room))) used
+            wanted k (given .0) s most
+            ∙ ap (λ e. orNext e (next (all steps) (suc k)))
+            (sym (tried-alike (all steps) s (omega (arith, so-far .taken)))))
+
+        -- It did not fail: the search ends as it did.
+        pub choice-settles : Settled r → Done later r
+        choice-settles settled =
             record {
-              kept = kept-later later failing attempt;
-              taken = omega (arith, so-far .taken, attempt .left);
-              among = omega (arith, given .0);
+              kept = kept-later;
+              left = omega (arith, no-more, so-far .taken);
               ends = λ steps.
-                  rw (there, one)
-                  (ap (λ t. walk (all steps) (length (w .room)) t (chartIn (w .room) place) used steps (w .places))
-                  (sym (w .starts))
-                  ∙ found-alike later failing attempt steps
-                  ∙ deepened-twice deepest (suc beyond) (next (all steps) (suc k) (all steps - l) p));
+                  settled-ends deepest (all steps) (next (all steps) (suc k)) r settled ∙ sym (found-alike steps);
             }
+
+      -- It failed: the search goes on with the next.
+      pub choice-fails :
+          (later : List ℕ) (beyond l p : ℕ) → Attempts after (logOf (w .rest)) x left most later (Failed beyond l p)
+          → Going w later (max deepest (1 + beyond)) l p (k + 1)
+      choice-fails later beyond l p attempt =
+          let failing : Ended = Failed beyond l p in
+          let there : k + 1 ≡ suc k = omega arith in
+          let one : 1 + beyond ≡ suc beyond = omega arith in
+          record {
+            kept = kept-later later failing attempt;
+            taken = omega (arith, so-far .taken, attempt .left);
+            among = omega (arith, given .0);
+            ends = λ steps.
+                rw (there, one)
+                (ap (λ t. walk (all steps) (length (w .room)) t (chartIn (w .room) place) used steps (w .places))
+                (sym (w .starts))
+                ∙ found-alike later failing attempt steps
+                ∙ deepened-twice deepest (suc beyond) (next (all steps) (suc k) (all steps - l) p));
+          }

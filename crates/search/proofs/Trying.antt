@@ -30,7 +30,8 @@ use Rattle.search.specs.Ending.{endingOf, leftOf, Leaves, Searches, Atte
 use Rattle.search.proofs.Turns.{tried}
 
 -- A stop for want of room says nothing of the follow-up.
-stopped-alike : (b : Bool) (m n : ℕ) (f g : ℕ → ℕ → Ending) (s p : ℕ) → followUp b true m f s p ≡ followUp b true n g s p
+stopped-alike :
+    (b : Bool) (m n : ℕ) (f g : ℕ → ℕ → Ending) (s p : ℕ) → followUp b true m f s p ≡ followUp b true n g s p
 stopped-alike true m n f g s p = refl
 stopped-alike false m n f g s p = refl
 
@@ -59,7 +60,8 @@ module _ (allowance : ℕ) (rest : Log) where
       (given : Follows before used xs k after (FollowUp x)) where
     -- The follow-up that was made is the definition's.
     pub same-choice : (b : Bool) (s p : ℕ)
-        → followUp b (ltb (length after) (x .used)) (x .used) (goes (length after) (chartIn after (x .place)) (x .used)) s p
+        → followUp b (ltb (length after) (x .used)) (x .used) (goes (length after) (chartIn after (x .place)) (x .used))
+        s p
         ≡ (let part = getD xs k newEmpty in
         let n = used + costOf part in
         followUp b (ltb (length before) n) n (goes (length before) (chartOf part) n) s p)
@@ -68,12 +70,14 @@ module _ (allowance : ℕ) (rest : Log) where
         let n = used + costOf part in
         let long : length after ≡ length before = given .1 .kept .long in
         let alike : (length after < x .used) ↔ (length after < n)
-        = subst (λ l. (length after < x .used) ↔ (l < n)) (sym long) (exceeds-the-room before used xs k after x given) in
+        = subst (λ l. (length after < x .used) ↔ (l < n)) (sym long) (exceeds-the-room before used xs k after x given)
+        in
         let same : x .used ≤ length after
         → followUp b false (x .used) (goes (length after) (chartIn after (x .place)) (x .used)) s p
         ≡ followUp b false n (goes (length after) (chartOf part) n) s p
         = λ fits.
-        rw (follow-up-costs before used xs k after x given fits, follow-up-stands before used xs k after x given fits) in
+        rw (follow-up-costs before used xs k after x given fits, follow-up-stands before used xs k after x given fits)
+        in
         follow-up-alike b (length after) (x .used) n (goes (length after) (chartIn after (x .place)) (x .used))
         (goes (length after) (chartOf part) n) s p alike same
         ∙ ap (λ l. followUp b (ltb l n) n (goes l (chartOf part) n) s p) long
@@ -120,7 +124,8 @@ module _ (before : List ℕ) (rest : Log) (x : Root) (allowance places : ℕ) wh
     -- Else it is a step, and the search goes on from it.
     pub fitting-goes-on :
         (after : List ℕ) (r : Ended) → x .used ≤ length before
-        → Searches before rest x (allowance - 1) (max places (x .used)) after r → Attempts before rest x allowance places after r
+        → Searches before rest x (allowance - 1) (max places (x .used)) after r
+        → Attempts before rest x allowance places after r
     fitting-goes-on after r fits searched =
         record {
           kept = searched .kept;

@@ -34,7 +34,8 @@ Leaves allowance (Stopped number left places) = left ≤ allowance
 
 -- The log was searched in the chart at the root, as `walk` does, after any number of steps made before. Nothing in use
 -- was changed: the places of the choices are free again (01, How a log is executed).
-pub record Searches (before : List ℕ) (log : Log) (root : Root) (allowance places : ℕ) (after : List ℕ) (r : Ended) : Type 0 where
+pub record Searches (before : List ℕ) (log : Log) (root : Root) (allowance places : ℕ) (after : List ℕ) (r : Ended)
+    : Type 0 where
   pub kept : Kept (root .used) before after
   pub left : leftOf r ≤ allowance
   pub ends : (steps : ℕ) → endingOf (steps + allowance) r
@@ -42,7 +43,8 @@ pub record Searches (before : List ℕ) (log : Log) (root : Root) (allowance pla
 
 -- One choice was tried, whose follow-up has its root at x: 9 was asked, then 10, and the rest of the log was searched
 -- from it (01, Verdicts and numbers given).
-pub record Attempts (before : List ℕ) (rest : Log) (x : Root) (allowance places : ℕ) (after : List ℕ) (r : Ended) : Type 0 where
+pub record Attempts (before : List ℕ) (rest : Log) (x : Root) (allowance places : ℕ) (after : List ℕ) (r : Ended)
+    : Type 0 where
   pub kept : Kept (x .used) before after
   pub left : Leaves allowance r
   pub ends : (steps : ℕ) → endingOf (steps + allowance) r

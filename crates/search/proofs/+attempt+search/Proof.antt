@@ -1,6 +1,6 @@
 -- `search` and `attempt` meet their contracts. The log falls at each call of `attempt`, and `attempt` goes on with the
 -- log that it was given; the occurrences left fall at each turn of the loop. Assumes nothing.
-use Prim.Native.Nat.{ℕ, _*_, _+_, _-_, _<_, _≤_}
+use Prim.Native.Nat.{ℕ, _*_, _+_, _-_, _<_}
 use Prim.Native.Nat.{ℕ, _<_}
 use mathlib.Core.List.{[], _∷_}
 use mathlib.Core.Path.{refl, sym, ap, _∙_}
@@ -8,15 +8,13 @@ use native.Mathlib.Omega.{arith}
 use lib.ListN.{length, take, drop, length-take}
 use borrow.Fn.Kinds.{In}
 use borrow.Fn.PlainCycle.{Measures, is, falls, and}
-use Rattle.chart.specs.Executing.{follows}
-use Rattle.room.specs.Room.{chartIn}
 use Rattle.log.specs.Bytes.{logOf}
 use Rattle.log.proofs.Actions.{first-action, as-many-actions}
 use Rattle.room.specs.declared.Executed.the-variants.{FollowUp}
 use Rattle.room.specs.Building.{actionOf, Follows}
 use Rattle.room.proofs.Apart.{table-rooted}
 use Rattle.search.proofs.Trying.{spent-stops, exceeding-stops, fitting-goes-on, attempt-within}
-use Rattle.search.proofs.Searching.{Settled, SoFar, choices, Task, log-ends, at-first, still-stands, no-choice-left, choice-left, choice-settles, choice-fails}
+use Rattle.search.proofs.Searching.{Settled, SoFar, choices, Task, Turn, occurrences, log-ends, at-first, still-stands, no-choice-left, choice-left, choice-settles, choice-fails}
 use Rattle.search.specs.declared.Ended.{Ended}
 use Rattle.search.specs.declared.Ended.the-variants.{Found, Failed, Stopped}
 use Rattle.search.proofs.Ended.{the-type}
@@ -111,17 +109,40 @@ module _ (t : ℕ) where
             ∙ ap (λ a. a ∷ logOf (take (length log - 2) (drop 2 log))) (sym (c .before .action-at .ensures));
       }
 
+  -- A turn of its loop.
+  abbrev turn : search-lts.At-loop search-claims search-at search′.Post search-Inv-loop search-μ-loop → Turn
+  turn c =
+      let at = c .loop in
+      record {
+        task = task (c .before);
+        room = at .room;
+        deepest = at .deepest;
+        left = at .left;
+        most = at .most;
+        k = at .k;
+        so-far = at .inv;
+      }
+
   -- What is known of a choice that failed: it was made,
   made : (c : search-lts.After-ended search-claims search-at search′.Post search-Inv-loop search-μ-loop)
-      → Follows
-      (c .before .before .before .before .before .before .before .before .before .before .before .before .before .loop .room) (c .before .before .before .before .before .before .before .before .before .before .before .before .before .before .before .before .before .before .before .args .root .used) (follows (chartIn (c .before .before .before .before .before .before .before .before .before .before .before .before .before .loop .room) (c .before .before .before .before .before .before .before .before .before .before .before .before .before .before .before .before .before .before .before .args .root .place)) (actionOf (c .before .before .before .before .before .before .before .before .before .before .before .before .before .before .before .action-at .result))) (c .before .before .before .before .before .before .before .before .before .before .before .before .before .loop .k) (c .before .before .before .before .before .before .before .before .before .before .before .execute .last .0) (FollowUp (c .before .before .before .before .before .before .before .answer .given .0 .0))
+      → (let u = turn
+      (c .before .before .before .before .before .before .before .before .before .before .before .before .before) in
+      Follows (u .room) (u .task .root .used) (occurrences u) (u .k)
+      (c .before .before .before .before .before .before .before .before .before .before .before .execute .last .0)
+      (FollowUp (c .before .before .before .before .before .before .before .answer .given .0 .0)))
   made c = rw (c .before .before .before .before .before .before .before .answer .given .1) at
       (c .before .before .before .before .before .before .before .before .before .before .before .execute .ensures)
 
-  -- tried,
+  -- and tried.
   failing : (c : search-lts.After-ended search-claims search-at search′.Post search-Inv-loop search-μ-loop)
-      → Attempts
-      (c .before .before .before .before .before .before .before .before .before .before .before .execute .last .0) (logOf (task (c .before .before .before .before .before .before .before .before .before .before .before .before .before .before) .rest)) (c .before .before .before .before .before .before .before .answer .given .0 .0) (c .before .before .before .before .before .before .before .before .before .before .before .before .before .loop .left) (c .before .before .before .before .before .before .before .before .before .before .before .before .before .loop .most) (c .before .before .before .before .attempt .last .1 .0) (Failed (c .ended .given .0 .0) (c .ended .given .0 .1 .0) (c .ended .given .0 .1 .1 .0))
+      → (let u = turn
+      (c .before .before .before .before .before .before .before .before .before .before .before .before .before) in
+      let (beyond, (l, (p, end))) = c .ended .given .0 in
+      Attempts
+      (c .before .before .before .before .before .before .before .before .before .before .before .execute .last .0)
+      (logOf (u .task .rest)) (c .before .before .before .before .before .before .before .answer .given .0 .0) (u .left)
+      (u .most)
+      (c .before .before .before .before .attempt .last .1 .0) (Failed beyond l p))
   failing c = rw (c .ended .given .1) at (c .before .before .before .before .attempt .ensures)
 
   attempt-returns : attempt-lts.Need-returns attempt-claims attempt-at attempt.Post
@@ -207,9 +228,7 @@ module _ (t : ℕ) where
 
   search-execute-requires : search-lts.Need-execute-requires search-claims search-at search′.Post search-Inv-loop
       search-μ-loop
-  search-execute-requires c κs =
-      let at = c .before .loop in
-      still-stands (task (c .before .before)) (at .room) (at .deepest) (at .left) (at .most) (at .k) (at .inv)
+  search-execute-requires c κs = still-stands (turn (c .before))
 
   search-enum-known-answer : search-lts.Need-enum-known-answer search-claims search-at search′.Post search-Inv-loop
       search-μ-loop
@@ -226,31 +245,21 @@ module _ (t : ℕ) where
 
   search-returns-2 : search-lts.Need-returns-2 search-claims search-at search′.Post search-Inv-loop search-μ-loop
   search-returns-2 c =
-      let at = c .before .before .before .before .before .before .loop in
       let none = rw (c .enum-told .given .1) at (c .before .before .before .before .execute .ensures) in
-      no-choice-left (task (c .before .before .before .before .before .before .before)) (at .room) (at .deepest)
-      (at .left) (at .most) (at .k) (at .inv) (c .before .before .before .before .execute .last .0)
-      (c .enum-told .given .0 .0) none
+      no-choice-left (turn (c .before .before .before .before .before .before))
+      (c .before .before .before .before .execute .last .0) (c .enum-told .given .0 .0) none
 
   search-attempt-requires : search-lts.Need-attempt-requires search-claims search-at search′.Post search-Inv-loop
       search-μ-loop
   search-attempt-requires c κs =
       let made = rw (c .before .before .answer .given .1) at
       (c .before .before .before .before .before .before .execute .ensures) in
-      let log =
-      c .before .before .before .before .before .before .before .before .before .before .before .before .before .before .args .log .now in
-      let long : length (take (length log - 2) (drop 2 log)) ≤ length log - 2 = omega (
-        arith,
-        length-take (length log
-            - 2) (drop 2 log),
-      ) in (
-        omega (
-          arith,
-          c .before .before .before .before .before .before .before .before .before .before .before .before .before .before .pre .0,
-          long,
-        ),
-        (made .1 .held, omega (arith, c .before .before .before .before .before .before .before .before .before .before .before .before .before .before .pre .1 .3, long)),
-      )
+      let s =
+      c .before .before .before .before .before .before .before .before .before .before .before .before .before .before
+      in
+      let log = s .args .log .now in
+      let long = length-take (length log - 2) (drop 2 log) in
+      (omega (arith, s .pre .0, long), (made .1 .held, omega (arith, s .pre .1 .3, long)))
 
   search-enum-known-ended : search-lts.Need-enum-known-ended search-claims search-at search′.Post search-Inv-loop
       search-μ-loop
@@ -265,35 +274,32 @@ module _ (t : ℕ) where
 
   search-returns-3 : search-lts.Need-returns-3 search-claims search-at search′.Post search-Inv-loop search-μ-loop
   search-returns-3 c =
-      let at =
-      c .before .before .before .before .before .before .before .before .before .before .before .before .loop in
       let made = rw (c .before .before .before .before .before .before .answer .given .1) at
       (c .before .before .before .before .before .before .before .before .before .before .execute .ensures) in
-      choice-settles (task
-      (c .before .before .before .before .before .before .before .before .before .before .before .before .before)) (at .room) (at .deepest) (at .left) (at .most) (at .k) (at .inv) (c .before .before .before .before .before .before .before .before .before .before .execute .last .0)
-      (c .before .before .before .before .before .before .answer .given .0 .0) made
-      (c .before .before .before .attempt .last .1 .0) (c .before .before .before .attempt .result)
-      (c .before .before .before .attempt .ensures)
-      (settled (c .before .before .before .attempt .result) (c .match2 .keys2))
+      let tried = c .before .before .before .attempt in
+      choice-settles (turn
+      (c .before .before .before .before .before .before .before .before .before .before .before .before))
+      (c .before .before .before .before .before .before .before .before .before .before .execute .last .0)
+      (c .before .before .before .before .before .before .answer .given .0 .0) made (tried .last .1 .0)
+      (tried .result)
+      (tried .ensures) (settled (tried .result) (c .match2 .keys2))
 
   search-add-larger : search-lts.Need-add-larger search-claims search-at search′.Post search-Inv-loop search-μ-loop
   search-add-larger c =
       let f = c .before in
-      let log =
-      c .before .before .before .before .before .before .before .before .before .before .before .before .before .before .before .before .before .before .before .before .args .log .now in
-      let rest = task
-      (c .before .before .before .before .before .before .before .before .before .before .before .before .before .before .before) .rest in
-      let deep = attempt-within
-      (c .before .before .before .before .before .before .before .before .before .before .before .before .execute .last .0) (logOf rest) (c .before .before .before .before .before .before .before .before .answer .given .0 .0) (c .before .before .before .before .before .before .before .before .before .before .before .before .before .before .loop .left) (c .before .before .before .before .before .before .before .before .before .before .before .before .before .before .loop .most)
-      (c .before .before .before .before .before .attempt .last .1 .0) (c .before .ended .given .0 .0)
-      (c .before .ended .given .0 .1 .0) (c .before .ended .given .0 .1 .1 .0) (failing f) in
-      omega (
-        arith,
-        deep,
-        as-many-actions rest,
-        length-take (length log - 2) (drop 2 log),
-        c .before .before .before .before .before .before .before .before .before .before .before .before .before .before .before .before .before .before .before .before .pre .1 .3,
-      )
+      let s =
+      f .before .before .before .before .before .before .before .before .before .before .before .before .before .before .before .before .before .before .before in
+      let log = s .args .log .now in
+      let u = turn
+      (f .before .before .before .before .before .before .before .before .before .before .before .before .before) in
+      let (beyond, (l, (p, end))) = f .ended .given .0 in
+      let deep =
+      attempt-within
+      (f .before .before .before .before .before .before .before .before .before .before .before .execute .last .0)
+      (logOf (u .task .rest)) (f .before .before .before .before .before .before .before .answer .given .0 .0) (u .left)
+      (u .most)
+      (f .before .before .before .before .attempt .last .1 .0) beyond l p (failing f) in
+      omega (arith, deep, as-many-actions (u .task .rest), length-take (length log - 2) (drop 2 log), s .pre .1 .3)
 
   search-larger-requires : search-lts.Need-larger-requires search-claims search-at search′.Post search-Inv-loop
       search-μ-loop
@@ -311,25 +317,25 @@ module _ (t : ℕ) where
 
   search-loop-less : search-lts.Need-loop-less search-claims search-at search′.Post search-Inv-loop search-μ-loop
   search-loop-less c =
-      let at =
-      c .before .before .before .before .before .before .before .before .before .before .before .before .before .before .before .loop in
-      let some = choice-left (task
-      (c .before .before .before .before .before .before .before .before .before .before .before .before .before .before .before .before)) (at .room) (at .deepest) (at .left) (at .most) (at .k) (at .inv)
-      (c .before .before .before .before .before .before .before .before .before .before .before .before .before .execute .last .0) (c .before .before .before .before .before .before .before .before .before .answer .given .0 .0) (made (c .before .before)) in
-      omega (arith, some)
+      let f = c .before .before in
+      omega (
+        arith,
+        choice-left (turn
+            (f .before .before .before .before .before .before .before .before .before .before .before .before .before))
+            (f .before .before .before .before .before .before .before .before .before .before .before .execute .last .0) (f .before .before .before .before .before .before .before .answer .given .0 .0) (made f),
+      )
 
   search-loop-again : search-lts.Need-loop-again search-claims search-at search′.Post search-Inv-loop search-μ-loop
   search-loop-again c =
       let f = c .before .before in
-      let at =
-      c .before .before .before .before .before .before .before .before .before .before .before .before .before .before .before .loop in
+      let (beyond, (l, (p, end))) = f .ended .given .0 in
       rw (c .larger .ensures)
-      (choice-fails (task
-      (c .before .before .before .before .before .before .before .before .before .before .before .before .before .before .before .before)) (at .room) (at .deepest) (at .left) (at .most) (at .k) (at .inv) (c .before .before .before .before .before .before .before .before .before .before .before .before .before .execute .last .0)
-      (c .before .before .before .before .before .before .before .before .before .answer .given .0 .0) (made f)
-      (c .before .before .before .before .before .before .attempt .last .1 .0)
-      (c .before .before .ended .given .0 .0) (c .before .before .ended .given .0 .1 .0)
-      (c .before .before .ended .given .0 .1 .1 .0) (failing f))
+      (choice-fails (turn
+      (f .before .before .before .before .before .before .before .before .before .before .before .before .before))
+      (f .before .before .before .before .before .before .before .before .before .before .before .execute .last .0)
+      (f .before .before .before .before .before .before .before .answer .given .0 .0) (made f)
+      (f .before .before .before .before .attempt .last .1 .0)
+      beyond l p (failing f))
 
 pub +attempt+search-spec : {M : Type 1} → statement M
 +attempt+search-spec = close μ-attempt μ-search (λ t. attempt-lts.spec
