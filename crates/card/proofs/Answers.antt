@@ -11,7 +11,7 @@ use Rattle.card.specs.declared.Finding.the-variants.{Fine, Refused}
 use Rattle.card.specs.Parts.{lifelinesOf, messagesOf, nodesOf}
 use Rattle.card.specs.Figures.{depthOf}
 use Rattle.card.specs.Findings.{framed, backInRule, countsInRange, faulty, misused}
-use Rattle.card.specs.Checking.{checking, refusal, soundness}
+use Rattle.card.specs.Checking.{checking, findings, first, refusal, soundness}
 
 -- The rules of the whole card are passed.
 pub record Passed (card : List ℕ) : Type 0 where
@@ -52,8 +52,12 @@ module _ (card : List ℕ) where
     unfolding checking
     answer-six h₄ h₅ h₆ = rw (p .one, p .two, p .three, h₄, h₅, lt-leb (depthOf (nodesOf card)) 16 h₆)
 
+    pub nothing-found :
+        faults ≡ Fine → misused (nodesOf card) ≡ Fine → depthOf (nodesOf card) ≤ 16 → first (findings card) ≡ Fine
+    nothing-found h₄ h₅ h₆ = rw (p .one, p .two, p .three, h₄, h₅, le-leb (depthOf (nodesOf card)) 16 h₆)
+
     pub answer-sound :
         faults ≡ Fine → misused (nodesOf card) ≡ Fine → depthOf (nodesOf card) ≤ 16
         → checking card ≡ soundness (nodesOf card)
     unfolding checking
-    answer-sound h₄ h₅ h₆ = rw (p .one, p .two, p .three, h₄, h₅, le-leb (depthOf (nodesOf card)) 16 h₆)
+    answer-sound h₄ h₅ h₆ = rw (nothing-found h₄ h₅ h₆)

@@ -26,7 +26,7 @@ finding-fine→ number place h = by (ℕ-discrete number 0)
     by (no d) = let never : Refused number place ≡ Fine = sym (finding-some number place d) ∙ h in cc
 
 -- Both of two findings are fine.
-or-fine→ : (f g : Finding) → orElse f g ≡ Fine → (f ≡ Fine) × (g ≡ Fine)
+pub or-fine→ : (f g : Finding) → orElse f g ≡ Fine → (f ≡ Fine) × (g ≡ Fine)
 or-fine→ Fine g h = (refl, h)
 or-fine→ (Refused number place) g h = (h, cc)
 

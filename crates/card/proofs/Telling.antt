@@ -20,7 +20,7 @@ use Rattle.card.specs.Parts.{lifelinesOf, messagesOf, nodesOf}
 use Rattle.card.specs.Nodes.{countOf, nodeAt, spareAt, cardRow}
 use Rattle.card.specs.Figures.{depthOf}
 use Rattle.card.specs.Findings.{framed, backInRule, countsInRange, inOrder, inOrderAs, faulty, misused}
-use Rattle.card.specs.Checking.{checking, soundness}
+use Rattle.card.specs.Checking.{checking, findings, first, soundness}
 use Rattle.card.specs.Faultless.{Faultless}
 use Rattle.card.specs.Table.{Trailed, Ordered, Tree, Sound, Told, NoCard, BackOut, FaultAt, MisuseAt, count}
 use Rattle.card.specs.Table.Told.{one, two, three, four, five, six, sound}
@@ -32,7 +32,7 @@ use Rattle.card.proofs.Deciding.{same-count, fault-decided, misuse-deci
 use Rattle.card.proofs.LowestAt.{Looked, look, none→fine, lowest→refused}
 use Rattle.card.proofs.LowestAt.Looked.{nowhere, somewhere}
 use Rattle.card.proofs.Answers.{Passed, answer-one, answer-two, answer-three}
-use Rattle.card.proofs.Answers.{answer-four, answer-five, answer-six, answer-sound}
+use Rattle.card.proofs.Answers.{nothing-found, answer-four, answer-five, answer-six, answer-sound}
 
 four-is-real : _≢_ {A = ℕ} 4 0
 four-is-real e = omega arith
@@ -94,6 +94,14 @@ module _ (card : List ℕ) where
   no-misuse t =
       none→fine 5 five-is-real once (MisuseAt card) (countOf nodes - 1) (each-use-decided (countOf nodes - 1))
       (λ j h. t .once j (omega (arith, counted-alike (t .ordered .trailed))))
+
+  -- Nothing refuses a sound card.
+  pub sound→nothing-found : Sound card → first (findings card) ≡ Fine
+  sound→nothing-found s =
+      let tree = s .tree in
+      let t = tree .ordered .trailed in
+      let shallow : ¬ (16 < depthOf nodes) = s .shallow in
+      nothing-found card (passed t) (no-fault (tree .ordered)) (no-misuse tree) (omega arith)
 
   -- A sound card has its figures.
   pub sound→answer : Sound card → checking card ≡ soundness nodes

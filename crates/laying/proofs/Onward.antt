@@ -7,7 +7,7 @@ use mathlib.Core.List.{List}
 use mathlib.Core.Path.{_≡_, refl, ap, sym, subst, _∙_}
 use native.Mathlib.Omega.{arith}
 use lib.ListN.{length}
-use borrow.Author.Tests.{ltb-false}
+use borrow.Author.Tests.{ltb-true, ltb-false}
 use Rattle.chart.specs.Chart.{size}
 use Rattle.card.specs.Parts.{nodesOf}
 use Rattle.card.specs.Nodes.{cardChart}
@@ -35,10 +35,22 @@ whole-if-it-does-not-exceed :
 whole-if-it-does-not-exceed true root there e = absurd (subst IsWhole e tt)
 whole-if-it-does-not-exceed false root there e = (refl, ap rootIn e)
 
+too-little-if-it-exceeds : (b : Bool) (there : Root) → TooLittle ≡ cond b TooLittle (Whole there) → b ≡ true
+too-little-if-it-exceeds true there e = refl
+too-little-if-it-exceeds false there e = absurd (subst IsWhole (sym e) tt)
+
 -- As many places as the chart has nodes.
 pub taken-by-the-chart : (card : List ℕ) → Sound card → taken card ≡ size (cardChart card)
 taken-by-the-chart card sound =
     sym (as-many-nodes (nodesOf card) (sound→faultless card sound) (sound→once card sound))
+
+-- Too little room is told only of a chart that exceeds it.
+pub too-little-exceeds : (card room : List ℕ) → Sound card → TooLittle ≡ laying card room
+    → length room < size (cardChart card)
+too-little-exceeds card room sound told =
+    let over = too-little-if-it-exceeds (exceeds card room) (record { place = taken card - 1; used = taken card }) told
+    in
+    rw (taken-by-the-chart card sound) at (ltb-true (length room) (taken card) over)
 
 module _ (card room : List ℕ) (sound : Sound card) (usable : length room ≤ 16384) (root : Root)
     (laid : Whole root ≡ laying card room) where
@@ -51,6 +63,12 @@ module _ (card room : List ℕ) (sound : Sound card) (usable : length room ≤ 1
 
   there : laidIn card room ≡ placed (nodesOf card) (taken card) room
   there = rw (decided .0)
+
+  pub whole-fits : size (cardChart card) ≤ length room
+  whole-fits = rw (taken-by-the-chart card sound) at enough
+
+  pub whole-keeps-the-length : length (laidIn card room) ≡ length room
+  whole-keeps-the-length = ap length there ∙ placed-length (nodesOf card) (taken card) room enough
 
   -- The places in use.
   pub whole-counts-the-chart : root .used ≡ size (cardChart card)
@@ -70,10 +88,8 @@ module _ (card room : List ℕ) (sound : Sound card) (usable : length room ≤ 1
   pub whole-is-rooted : Rooted (laidIn card room) (root .place)
   whole-is-rooted =
       let all : root .used ≡ taken card = ap (λ r. r .used) (decided .1) in
-      let long : length (laidIn card room) ≡ length room
-      = ap length there ∙ placed-length (nodesOf card) (taken card) room enough in
       table-rooted (laidIn card room) (root .used) (root .place) whole-is-a-table whole-is-below
-      (omega (arith, whole-is-below, enough))
+      (omega (arith, whole-is-below, enough, whole-keeps-the-length))
 
   -- The card's chart stands at the root.
   pub whole-stands : chartIn (laidIn card room) (root .place) ≡ cardChart card

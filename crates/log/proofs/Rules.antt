@@ -2,9 +2,9 @@
 -- one is not.
 -- Assumes nothing.
 use Prim.Native.Nat.{ℕ, _+_, _%_, _<_, _≤_}
-use mathlib.Core.Bool.{true, false, cond}
+use mathlib.Core.Bool.{Bool, true, false, cond}
 use mathlib.Core.List.{List}
-use mathlib.Core.Path.{_≡_, ap}
+use mathlib.Core.Path.{_≡_, refl, ap}
 use native.Mathlib.Omega.{arith}
 use lib.Dec.{eqb, leb}
 use lib.ListN.{length}
@@ -12,9 +12,10 @@ use borrow.Author.Tests.{eqb-true, leb-true}
 use Rattle.chart.proofs.Tests.{both-true}
 use Rattle.card.specs.declared.Finding.the-variants.{Fine, Refused}
 use Rattle.card.specs.Findings.{lowest}
-use Rattle.card.proofs.Lowest.{fine-so-far, found-here}
+use Rattle.card.specs.Checking.{rule}
+use Rattle.card.proofs.Lowest.{or-fine→, fine-so-far, found-here}
 use Rattle.log.specs.Bytes.{actionAt}
-use Rattle.log.specs.Refusing.{inRule, declared, undeclaredOf}
+use Rattle.log.specs.Refusing.{inRule, declared, undeclaredOf, undeclared, refusing}
 
 module _ (log : List ℕ) (passed : inRule log ≡ true) where
   pub in-rule-is-even : length log % 2 ≡ 0
@@ -23,6 +24,16 @@ module _ (log : List ℕ) (passed : inRule log ≡ true) where
 
   pub in-rule-is-short : length log ≤ 256
   in-rule-is-short = leb-true (length log) 256 (both-true (eqb (length log % 2) 0) (leb (length log) 256) passed .1)
+
+-- A log in which nothing is found is in rule.
+passes : (b : Bool) → rule 7 b ≡ Fine → b ≡ true
+passes true h = refl
+passes false h = cc
+
+pub fine-is-in-rule : (lifelines messages : ℕ) (log : List ℕ) → refusing lifelines messages log ≡ Fine → inRule log ≡
+    true
+fine-is-in-rule lifelines messages log h =
+    passes (inRule log) (or-fine→ (rule 7 (inRule log)) (undeclared lifelines messages log) h .0)
 
 module _ (lifelines messages : ℕ) (log : List ℕ) (i : ℕ)
     (before : lowest (undeclaredOf lifelines messages log) i ≡ Fine) where

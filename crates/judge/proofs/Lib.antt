@@ -1,0 +1,3 @@
+-- Laws of judging. A reader of the demands begins at the end, with Promises.
+pub mod Answering
+pub mod Refusing
