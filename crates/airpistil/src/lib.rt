@@ -4,7 +4,9 @@ ghost use mathlib.Core.Path.{_≡_};
 ghost use lib.ListN.{length};
 ghost use Rattle.card.specs.Checking.{checking};
 ghost use Rattle.card.specs.Note.{noteOf};
+ghost use Rattle.judge.specs.Judgment.{judgment, roomAfter};
 use card::Checked;
+use judge::Judged;
 
 // The answer to a card: number, place, nodes, depth, lifelines.
 #[no_mangle]
@@ -22,4 +24,14 @@ pub extern "C" fn airpistil_note(card: &[u8]) -> usize
 {
     let note = reader::note(card);
     note.len()
+}
+
+// The judgment of a log by a card: number, place, steps, places.
+#[no_mangle]
+pub extern "C" fn airpistil_judge(card: &[u8], log: &[u8], allowance: u32, room: &mut [u32]) -> Judged
+    ensures { λ r.
+        ⌜ r ≡ judgment (now (card .entry)) (now (log .entry)) allowance (length (now (room .entry)))
+        × now (room .exit) ≡ roomAfter (now (card .entry)) (now (log .entry)) (now (room .entry)) ⌝ }
+{
+    judge::judge(card, log, allowance, room)
 }

@@ -1,5 +1,4 @@
--- What was found decides the judgment and the room afterwards: the card was refused; or the log was; or neither was,
--- and
+-- What was found decides the judgment and the room afterwards: the card was refused; or the log was; or neither, and
 -- the answer is that of the chart and the log.
 -- Assumes nothing.
 use Prim.Native.Nat.{ℕ}
