@@ -3,8 +3,8 @@
  *
  * Every call takes any bytes, sound or spoiled, and answers with one number. Nothing is allocated and nothing is kept
  * between calls: the caller owns every byte that it lends, a call reads them while it runs, and writes to none of them
- * unless its parameter says so. A pointer is not null and points to as many bytes as the length after it says, at most
- * PTRDIFF_MAX; with length 0 nothing is read through it.
+ * unless its parameter says so. A pointer is not null and points to as many bytes, for a room 32-bit numbers, as the length
+ * after it says, at most PTRDIFF_MAX bytes; with length 0 nothing is read through it.
  *
  * Link with libairpistil.a.
  */
@@ -47,6 +47,37 @@ struct airpistil_checked airpistil_check(const uint8_t *card, size_t len);
 /* How many of the card's leading bytes are its note; 0 for a refused card. The note is card[0] to card[n - 1] and stays
  * the caller's own. */
 size_t airpistil_note(const uint8_t *card, size_t len);
+
+/* The judgment of a log. */
+struct airpistil_judged {
+    /*
+     * 20  accepted: the chart has this log
+     * 21  short: the chart does not have this log, but has a longer one that begins with it
+     * 22  deviates: no log of the chart begins with this one
+     * 1 to 6  the card is refused, as above
+     * 7   the log has an odd length or is over 256 bytes
+     * 8   an action of the log has a lifeline or message that the card does not declare
+     * 9   a follow-up is wanted and the allowance is spent
+     * 10  the chart, or the next whole follow-up, exceeds the usable room
+     * Of 1 to 8 the lowest that applies is given; then 10 for the chart; then before each follow-up 9, then 10.
+     */
+    uint32_t number;
+    /* with 20 and 21 the number of actions of the log; with 22 how many of its actions begin some log of the chart, at
+     * most; with 4 and 5 the lowest such node and with 8 the lowest such action, counted from 0; else 0 */
+    uint32_t place;
+    /* the follow-ups made, and the most places in use at one moment; with 9 and 10 those so far; with 1 to 8 and for a
+     * chart that exceeds the room 0 */
+    uint32_t steps;
+    uint32_t places;
+};
+
+/*
+ * Judges the log of log_len bytes by the card of card_len bytes. At most allowance follow-ups are made. The room is
+ * lent: of its room_len numbers the first 16,384, or all if there are fewer, are usable. With 1 to 8 it is as found;
+ * otherwise its usable numbers are zero afterwards and the others as found. The room overlaps neither card nor log.
+ */
+struct airpistil_judged airpistil_judge(const uint8_t *card, size_t card_len, const uint8_t *log, size_t log_len,
+                                        uint32_t allowance, uint32_t *room, size_t room_len);
 
 #ifdef __cplusplus
 }
