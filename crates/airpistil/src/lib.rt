@@ -28,7 +28,12 @@ pub extern "C" fn airpistil_note(card: &[u8]) -> usize
 
 // The judgment of a log by a card: number, place, steps, places.
 #[no_mangle]
-pub extern "C" fn airpistil_judge(card: &[u8], log: &[u8], allowance: u32, room: &mut [u32]) -> Judged
+pub extern "C" fn airpistil_judge(
+    card: &[u8],
+    log: &[u8],
+    allowance: u32,
+    room: &mut [u32],
+) -> Judged
     ensures { λ r.
         ⌜ r ≡ judgment (now (card .entry)) (now (log .entry)) allowance (length (now (room .entry)))
         × now (room .exit) ≡ roomAfter (now (card .entry)) (now (log .entry)) (now (room .entry)) ⌝ }

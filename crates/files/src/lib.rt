@@ -4,10 +4,12 @@ use judge::Judged;
 
 // The allowance and the room that the program lends.
 const ALLOWANCE: u32 = 1000000;
+
 const ROOM: usize = 16384;
 
 // One byte more than a card or a log may have: a longer file is read far enough to be refused.
 const CARD: usize = 4097;
+
 const LOG: usize = 257;
 
 fn say(text: &[u8]) {
@@ -56,10 +58,21 @@ fn open_log() -> i32 {
 }
 
 // Reads both files as far as the lent bytes go, and judges what was read.
-fn judge_files(chart: i32, log: i32, card_bytes: &mut [u8], log_bytes: &mut [u8], room: &mut [u32]) {
+fn judge_files(
+    chart: i32,
+    log: i32,
+    card_bytes: &mut [u8],
+    log_bytes: &mut [u8],
+    room: &mut [u32],
+) {
     let card_end = io::read_full(chart, card_bytes);
     let log_end = io::read_full(log, log_bytes);
-    tell(judge::judge(&card_bytes[0..card_end], &log_bytes[0..log_end], ALLOWANCE, room));
+    tell(judge::judge(
+        &card_bytes[0..card_end],
+        &log_bytes[0..log_end],
+        ALLOWANCE,
+        room,
+    ));
 }
 
 // Judges the files of the directory; if either is missing, says so.

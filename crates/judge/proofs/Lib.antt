@@ -1,3 +1,7 @@
 -- Laws of judging. A reader of the demands begins at the end, with Promises.
 pub mod Answering
 pub mod Refusing
+pub mod Telling
+pub mod Numbers
+pub mod Wiped
+pub mod Promises

@@ -25,7 +25,7 @@ use Rattle.room.proofs.Standing.{kept-self, kept-then, kept-chart, kept-table}
 use Rattle.room.proofs.Apart.{kept-rooted}
 use Rattle.search.specs.declared.Ended.{Ended}
 use Rattle.search.specs.declared.Ended.the-variants.{Found, Failed, Stopped}
-use Rattle.search.specs.Ending.{endingOf, leftOf, Leaves, Searches, Attempts}
+use Rattle.search.specs.Ending.{endingOf, leftOf, Searches, Attempts}
 use Rattle.search.proofs.Turns.{from, tried, none-left, one-left, deepened-not, deepened-twice}
 use Rattle.search.proofs.Trying.{goes, same-choice, leaves-no-more}
 
