@@ -2,9 +2,9 @@
  * Airpistil: the calls of the bench tool for C.
  *
  * Every call takes any bytes, sound or spoiled, and answers with one number. Nothing is allocated and nothing is kept
- * between calls: the caller owns every byte that it lends, a call reads them while it runs, and writes to none of them
- * unless its parameter says so. A pointer is not null and points to as many bytes, for a room 32-bit numbers, as the length
- * after it says, at most PTRDIFF_MAX bytes; with length 0 nothing is read through it.
+ * between calls: the caller owns all that it lends, a call reads it while it runs, and writes to none of it unless its
+ * parameter says so. A pointer is not null and points to as many bytes, for a room to as many 32-bit numbers, as the
+ * length after it says, at most PTRDIFF_MAX bytes; with length 0 nothing is read through it.
  *
  * Link with libairpistil.a.
  */

@@ -1,354 +1,226 @@
-//! The families of cards on which both programs are asked.
+//! The families of judgments on which both programs are asked.
 
-use crate::draft::{Draft, LARGEST_CARD, LARGEST_DEPTH, MARK, MOST_NODES, Node, TRAILER};
-use crate::faults::{self, Fault};
-use crate::random::Random;
-use crate::sound;
+use generate::charts::{looped, pair};
+use generate::draft::{Draft, Node};
+use generate::family::Family;
+use generate::logs::{Entry, Executed, MOST_ACTIONS, execute};
+use generate::random::Random;
 
-/// A card, and its number where its maker knows it beforehand.
-pub struct Card {
-    pub bytes: Vec<u8>,
-    pub expected: Option<u32>,
-}
+use crate::lending::{Case, lend};
+use crate::question::Question;
+use crate::spoiled::{damaged_cards, spoiled_cards, spoiled_logs};
+use crate::subjects;
 
-/// A family gives its cards in batches. Each batch goes once through the whole
-/// family, so one batch of every family already gives every number.
-pub struct Family {
-    pub name: &'static str,
-    /// How many of a hundred cards are of this family.
-    pub share: usize,
-    pub batch: fn(&mut Random) -> Vec<Card>,
-}
-
-const fn family(name: &'static str, share: usize, batch: fn(&mut Random) -> Vec<Card>) -> Family {
-    Family { name, share, batch }
-}
-
-pub const FAMILIES: [Family; 12] = [
-    family("sound cards of any shape", 22, any_shape),
-    family("cards at the limits", 4, limits),
-    family("one fault", 16, one_fault),
-    family("two faults", 16, two_faults),
-    family("three faults", 6, three_faults),
-    family("one byte damaged, at every position", 16, damaged),
-    family("one field set to every value", 6, every_value),
-    family("two trees side by side", 2, side_by_side),
-    family("depths around 16", 3, depths),
-    family("lengths around the limits", 2, lengths),
-    family("random bytes", 2, random_bytes),
-    family("random nodes before a right trailer", 5, random_nodes),
+pub const FAMILIES: [Family<Question>; 16] = [
+    Family::new("logs made by execution", 14, executed),
+    Family::new("openings of such logs", 8, openings),
+    Family::new("two neighbours swapped", 10, swapped),
+    Family::new("lengthened", 8, lengthened),
+    Family::new("one action dropped, put in or changed", 10, changed),
+    Family::new("logs of likely actions", 8, likely),
+    Family::new("empty logs", 4, empty),
+    Family::new("every nesting of two kinds", 10, nestings),
+    Family::new("nested loops", 9, nested_loops),
+    Family::new("one action again and again", 5, one_action),
+    Family::new("long searches", 1, long_searches),
+    Family::new("long logs", 3, long_logs),
+    Family::new("large charts", 2, large_charts),
+    Family::new("spoiled logs", 3, spoiled_logs),
+    Family::new("spoiled cards", 3, spoiled_cards),
+    Family::new("one byte of the card damaged", 2, damaged_cards),
 ];
 
-fn card(draft: &Draft, expected: u32) -> Card {
-    Card {
-        bytes: draft.bytes(),
-        expected: Some(expected),
+const VERDICTS: &[u32] = &[20, 21, 22];
+/// The verdicts on an opening of a log of the chart.
+const NO_DEVIATION: &[u32] = &[20, 21];
+const ACCEPTED: &[u32] = &[20];
+
+/// Steps that are ample for most logs; and those for a search that is to be long.
+const AMPLE: u32 = 300;
+const LONG: u32 = 20_000;
+
+/// The questions on some cases.
+fn cases(random: &mut Random, make: fn(&mut Random) -> Case) -> Vec<Question> {
+    let mut questions = Vec::new();
+    for _ in 0..20 {
+        let case = make(random);
+        questions.extend(lend(random, &case));
+    }
+    questions
+}
+
+fn case(draft: Draft, log: Vec<Entry>, verdicts: &'static [u32]) -> Case {
+    Case {
+        draft,
+        log,
+        verdicts,
+        ample: AMPLE,
     }
 }
 
-fn unforeseen(bytes: Vec<u8>) -> Card {
-    Card {
-        bytes,
-        expected: None,
-    }
+/// A case whose log is made by executing the chart, at least so many actions.
+fn by_execution(random: &mut Random, draft: Draft, least: usize) -> Case {
+    let Executed { log, finished } = execute(random, &draft, least);
+    case(draft, log, if finished { ACCEPTED } else { NO_DEVIATION })
 }
 
-fn any_shape(random: &mut Random) -> Vec<Card> {
-    (0..100).map(|_| card(&sound::any(random), 0)).collect()
+/// Such a case for a chart of any kind.
+pub fn any_executed(random: &mut Random) -> Case {
+    let draft = subjects::any(random);
+    let most = random.pick(&[2, 6, 20]);
+    let least = random.within(0..=most);
+    by_execution(random, draft, least)
 }
 
-/// Cards that reach a limit exactly, the card of one node more, and cards that
-/// name one node as a child as often as can be.
-fn limits(random: &mut Random) -> Vec<Card> {
-    let mut cards = Vec::new();
-    for size in [1, 2, MOST_NODES - 1, MOST_NODES] {
-        cards.push(card(&sound::with_note(random, size), 0));
-        cards.push(card(&filled(random, size), 0));
-    }
-    let middling = random.within(1..=MOST_NODES);
-    cards.push(card(&filled(random, middling), 0));
-    cards.push(card(&all_acting(random), 0));
-    cards.push(card(&sound::sized(random, MOST_NODES + 1), 2));
-    for times in [2, 255, 256, 257, 508] {
-        cards.push(card(&Draft::new(named_often(times), 1, 1), 5));
-    }
-    cards.push(card(&Draft::new(ladder(MOST_NODES), 1, 1), 5));
-    cards
+fn executed(random: &mut Random) -> Vec<Question> {
+    cases(random, any_executed)
 }
 
-/// A sound card of exactly 4,096 bytes.
-fn filled(random: &mut Random, size: usize) -> Draft {
-    let mut draft = sound::sized(random, size);
-    draft.note = sound::note_of(random, LARGEST_CARD - TRAILER - draft.before());
-    draft
+fn openings(random: &mut Random) -> Vec<Question> {
+    cases(random, |random| {
+        let mut whole = any_executed(random);
+        whole.log.truncate(random.below(whole.log.len() + 1));
+        case(whole.draft, whole.log, NO_DEVIATION)
+    })
 }
 
-/// A sound card in which all of 16 lifelines act, with messages down from the
-/// last of 64. It has at least 16 leaves, since 255 nodes are at most 16 deep.
-fn all_acting(random: &mut Random) -> Draft {
-    let mut draft = sound::sized(random, MOST_NODES);
-    draft.lifelines = 16;
-    draft.messages = 64;
-    let turn = random.below(16);
-    let leaves = draft.nodes.iter_mut().filter(|node| node[0] <= 2);
-    for (leaf, node) in leaves.enumerate() {
-        let lifeline = (leaf + turn) % 16;
-        let message = (63 - leaf % 64) as u8;
-        *node = [random.within(1..=2) as u8, lifeline as u8, message, 0];
-    }
-    draft
+fn swapped(random: &mut Random) -> Vec<Question> {
+    cases(random, |random| {
+        let Case { draft, log, .. } = any_executed(random);
+        let log = subjects::swap(random, &log);
+        case(draft, log, VERDICTS)
+    })
 }
 
-/// Parents that name node 0 so many times in all: a count of one byte would
-/// wrap, and might take 257 times for once.
-fn named_often(times: usize) -> Vec<Node> {
-    let mut nodes = vec![[0; 4]];
-    nodes.extend(vec![[3, 0, 0, 0]; times / 2]);
-    nodes.extend(vec![[7, 0, 0, 0]; times % 2]);
-    nodes
+fn lengthened(random: &mut Random) -> Vec<Question> {
+    cases(random, |random| {
+        let Case { draft, log, .. } = any_executed(random);
+        let log = subjects::lengthen(random, &draft, &log);
+        case(draft, log, VERDICTS)
+    })
 }
 
-/// Pairs that name the node below on both sides. The ways down double with each
-/// node, so a reader that follows them before it counts children never ends.
-fn ladder(size: usize) -> Vec<Node> {
-    let pair = |below| [4, below, below, 0];
-    let pairs = (0..size as u8 - 1).map(pair);
-    std::iter::once([0; 4]).chain(pairs).collect()
+fn changed(random: &mut Random) -> Vec<Question> {
+    cases(random, |random| {
+        let Case { draft, log, .. } = any_executed(random);
+        let log = subjects::change(random, &draft, &log);
+        case(draft, log, VERDICTS)
+    })
 }
 
-/// A sound card into which all these faults fit, with them. The lowest number
-/// goes in last and is the one given; only a second fault of number 5 might
-/// mend the first, by naming the child that was left without a parent.
-fn with_faults(random: &mut Random, faults: &[Fault]) -> Card {
-    let mut falling = faults.to_vec();
-    falling.sort_by_key(|fault| std::cmp::Reverse(fault.number()));
-    loop {
-        let mut draft = sound::any(random);
-        if falling.iter().all(|fault| fault.spoil(random, &mut draft)) {
-            let numbers: Vec<u32> = falling.iter().map(|fault| fault.number()).collect();
-            let mendable = numbers.ends_with(&[5, 5]);
-            let expected = numbers.last().copied().filter(|_| !mendable);
-            return Card {
-                bytes: draft.bytes(),
-                expected,
-            };
+fn likely(random: &mut Random) -> Vec<Question> {
+    cases(random, |random| {
+        let draft = subjects::any(random);
+        let most = random.pick(&[4, 10, MOST_ACTIONS]);
+        let length = random.within(0..=most);
+        let log = subjects::any_log(random, &draft, length);
+        case(draft, log, VERDICTS)
+    })
+}
+
+fn empty(random: &mut Random) -> Vec<Question> {
+    cases(random, |random| {
+        case(subjects::any(random), Vec::new(), NO_DEVIATION)
+    })
+}
+
+/// Every pair and every loop over parts of every kind.
+fn nestings(random: &mut Random) -> Vec<Question> {
+    let mut questions = Vec::new();
+    for (left, right) in (0..=10).flat_map(|left| (0..=10).map(move |right| (left, right))) {
+        for kind in 3..=6 {
+            let nodes = pair(kind, part(random, left), part(random, right));
+            questions.extend(nesting(random, nodes));
         }
     }
-}
-
-fn one_fault(random: &mut Random) -> Vec<Card> {
-    faults::all()
-        .into_iter()
-        .map(|fault| with_faults(random, &[fault]))
-        .collect()
-}
-
-/// Every pair of faults: of two numbers the lower one counts, of two faults of
-/// one number the one at the lower node.
-fn two_faults(random: &mut Random) -> Vec<Card> {
-    let faults = faults::all();
-    let mut cards = Vec::new();
-    for (index, &first) in faults.iter().enumerate() {
-        for &second in &faults[index..] {
-            cards.push(with_faults(random, &[first, second]));
-        }
+    for (kind, body) in (7..=10).flat_map(|kind| (0..=10).map(move |body| (kind, body))) {
+        let nodes = looped(kind, part(random, body));
+        questions.extend(nesting(random, nodes));
     }
-    cards
+    questions
 }
 
-fn three_faults(random: &mut Random) -> Vec<Card> {
-    let faults = faults::all();
-    (0..100)
-        .map(|_| {
-            let three = [0; 3].map(|_| random.pick(&faults));
-            with_faults(random, &three)
-        })
-        .collect()
-}
-
-/// Sound cards with one byte changed, for every position: small cards with four
-/// other values each, one larger card with one other value each.
-fn damaged(random: &mut Random) -> Vec<Card> {
-    let mut cards = Vec::new();
-    for _ in 0..10 {
-        let size = random.within(1..=9);
-        damage_everywhere(random, size, 4, &mut cards);
-    }
-    let size = random.pick(&[30, 60, 120, MOST_NODES]);
-    damage_everywhere(random, size, 1, &mut cards);
-    cards
-}
-
-fn damage_everywhere(random: &mut Random, size: usize, values: usize, cards: &mut Vec<Card>) {
-    let mut draft = sound::sized(random, size);
-    draft.note = sound::note(random, 8);
-    let bytes = draft.bytes();
-    for position in 0..bytes.len() {
-        for _ in 0..values {
-            cards.push(unforeseen(damage(random, &bytes, position)));
-        }
+/// A part of this kind over leaves.
+fn part(random: &mut Random, kind: u8) -> Vec<Node> {
+    match kind {
+        0 => vec![[0; 4]],
+        1..=2 => vec![[kind, random.below(2) as u8, 0, 0]],
+        3..=6 => pair(kind, subjects::leaf(random), subjects::leaf(random)),
+        _ => looped(kind, subjects::leaf(random)),
     }
 }
 
-/// Changes one byte: by one bit, by one up or down, or to any other value.
-pub fn damage(random: &mut Random, bytes: &[u8], position: usize) -> Vec<u8> {
-    let mut damaged = bytes.to_vec();
-    let byte = bytes[position];
-    damaged[position] = match random.below(4) {
-        0 => byte ^ (1 << random.below(8)),
-        1 => byte.wrapping_add(1),
-        2 => byte.wrapping_sub(1),
-        _ => random.other_byte(byte),
+fn nesting(random: &mut Random, nodes: Vec<Node>) -> Vec<Question> {
+    let least = random.within(0..=5);
+    let made = maybe_changed(random, Draft::new(nodes, 2, 2), least);
+    lend(random, &made)
+}
+
+/// A log made by executing the chart, at least so many actions, as it is or with
+/// one change.
+fn maybe_changed(random: &mut Random, draft: Draft, least: usize) -> Case {
+    let made = by_execution(random, draft, least);
+    let log = match random.below(4) {
+        0 => subjects::change(random, &made.draft, &made.log),
+        1 => subjects::swap(random, &made.log),
+        _ => return made,
     };
-    damaged
+    case(made.draft, log, VERDICTS)
 }
 
-/// A sound card in which one byte of a node, or now and then of the trailer,
-/// takes every value.
-fn every_value(random: &mut Random) -> Vec<Card> {
-    let draft = sound::any(random);
-    let bytes = draft.bytes();
-    let trailer = bytes.len() - TRAILER;
-    let position = if random.one_in(10) {
-        random.within(trailer..=bytes.len() - 1)
-    } else {
-        random.within(draft.note.len()..=trailer - 1)
+fn nested_loops(random: &mut Random) -> Vec<Question> {
+    cases(random, |random| {
+        let draft = subjects::nested_loops(random);
+        let least = random.within(0..=8);
+        maybe_changed(random, draft, least)
+    })
+}
+
+/// 0!0 up to some times, and sometimes 0?0 at the end.
+fn again(random: &mut Random, most: usize) -> Vec<Entry> {
+    let mut log = vec![[0, 0]; random.within(1..=most)];
+    if random.one_in(2) {
+        log.push([1, 0]);
+    }
+    log
+}
+
+fn one_action(random: &mut Random) -> Vec<Question> {
+    cases(random, |random| {
+        let draft = subjects::one_action(random);
+        let log = again(random, 8);
+        case(draft, log, VERDICTS)
+    })
+}
+
+fn long_searches(random: &mut Random) -> Vec<Question> {
+    let draft = subjects::long_search(random);
+    let made = Case {
+        draft,
+        log: again(random, 9),
+        verdicts: VERDICTS,
+        ample: LONG,
     };
-    let with = |value| {
-        let mut bytes = bytes.clone();
-        bytes[position] = value;
-        unforeseen(bytes)
-    };
-    (0..=255).map(with).collect()
+    lend(random, &made)
 }
 
-fn side_by_side(random: &mut Random) -> Vec<Card> {
-    (0..20)
-        .map(|_| with_faults(random, &[Fault::SideBySide]))
-        .collect()
+/// Logs of up to 128 actions to a loop of any kind.
+fn long_logs(random: &mut Random) -> Vec<Question> {
+    let Draft {
+        nodes,
+        lifelines,
+        messages,
+        ..
+    } = subjects::small(random);
+    let nodes = looped(random.within(7..=10) as u8, nodes);
+    let least = random.within(40..=MOST_ACTIONS);
+    let made = by_execution(random, Draft::new(nodes, lifelines, messages), least);
+    lend(random, &made)
 }
 
-/// Chains of loops, combs of pairs and random trees, of depths around 16 and of
-/// any larger depth that 255 nodes can have.
-fn depths(random: &mut Random) -> Vec<Card> {
-    let mut cards = Vec::new();
-    for depth in LARGEST_DEPTH - 2..=LARGEST_DEPTH + 2 {
-        cards.push(tree_of_depth(chain(random, depth), depth));
-        for sides in [[1, 0], [0, 1], [1, 1]] {
-            cards.push(tree_of_depth(comb(random, depth, sides), depth));
-        }
-    }
-    let deeper = random.within(LARGEST_DEPTH + 1..=MOST_NODES);
-    cards.push(tree_of_depth(chain(random, deeper), deeper));
-    let deeper = random.within(LARGEST_DEPTH + 1..=MOST_NODES.div_ceil(2));
-    cards.push(tree_of_depth(comb(random, deeper, [1, 1]), deeper));
-    for _ in 0..10 {
-        let size = random.within(40..=MOST_NODES);
-        let nodes = sound::nodes(random, size, LARGEST_DEPTH + 2, 1, 1);
-        let depth = Draft::new(nodes.clone(), 1, 1).depth();
-        cards.push(tree_of_depth(nodes, depth));
-    }
-    cards
-}
-
-fn tree_of_depth(nodes: Vec<Node>, depth: usize) -> Card {
-    let expected = if depth > LARGEST_DEPTH { 6 } else { 0 };
-    card(&Draft::new(nodes, 1, 1), expected)
-}
-
-/// Loops in one another around an empty or an action.
-fn chain(random: &mut Random, depth: usize) -> Vec<Node> {
-    let mut nodes = vec![[random.within(0..=2) as u8, 0, 0, 0]];
-    while nodes.len() < depth {
-        let body = (nodes.len() - 1) as u8;
-        nodes.push([random.within(7..=10) as u8, body, 0, 0]);
-    }
-    nodes
-}
-
-/// Pairs in one another. Of each pair the other side is a leaf; `sides` says how
-/// often the deep side is the left one and how often the right one.
-fn comb(random: &mut Random, depth: usize, sides: [usize; 2]) -> Vec<Node> {
-    let mut nodes = vec![[random.within(0..=2) as u8, 0, 0, 0]];
-    for _ in 1..depth {
-        let deep = (nodes.len() - 1) as u8;
-        let leaf = deep + 1;
-        let kind = random.within(3..=6) as u8;
-        nodes.push([random.within(0..=2) as u8, 0, 0, 0]);
-        if random.below(sides[0] + sides[1]) < sides[0] {
-            nodes.push([kind, deep, leaf, 0]);
-        } else {
-            nodes.push([kind, leaf, deep, 0]);
-        }
-    }
-    nodes
-}
-
-/// Every length around 6 and around 4,096: zeros, random bytes, random bytes
-/// with a right mark, and the tail of a sound card behind random bytes.
-fn lengths(random: &mut Random) -> Vec<Card> {
-    let mut cards = Vec::new();
-    for length in (0..=40).chain(4080..=4100) {
-        let size = random.within(1..=9);
-        let tail = sound::sized(random, size).bytes();
-        cards.push(unforeseen(vec![0; length]));
-        cards.push(unforeseen(random.bytes(length)));
-        cards.push(unforeseen(ending(random, &MARK, length)));
-        cards.push(unforeseen(ending(random, &tail, length)));
-    }
-    cards
-}
-
-/// So many bytes: the last ones of the tail, behind random bytes where it is short.
-fn ending(random: &mut Random, tail: &[u8], length: usize) -> Vec<u8> {
-    let mut bytes = random.bytes(length.saturating_sub(tail.len()));
-    bytes.extend(&tail[tail.len().saturating_sub(length)..]);
-    bytes
-}
-
-/// Bytes of any length, half of them with a right mark.
-fn random_bytes(random: &mut Random) -> Vec<Card> {
-    (0..20)
-        .map(|index| {
-            let most = random.pick(&[16, 64, 64, 4200]);
-            let length = random.within(0..=most);
-            let tail = if index % 2 == 0 { &MARK[..] } else { &[] };
-            unforeseen(ending(random, tail, length))
-        })
-        .collect()
-}
-
-/// A few random nodes with small fields, so that many a card passes some of the
-/// checks and some cards pass all of them.
-fn random_nodes(random: &mut Random) -> Vec<Card> {
-    (0..20)
-        .map(|_| {
-            let size = random.within(1..=6);
-            let nodes = (0..size)
-                .map(|number| likely_node(random, number))
-                .collect();
-            let mut draft = Draft::new(nodes, random.pick(&[1, 2, 16]), random.pick(&[1, 2, 64]));
-            draft.note = sound::note(random, 12);
-            unforeseen(draft.bytes())
-        })
-        .collect()
-}
-
-/// A node that most often breaks no rule by itself.
-fn likely_node(random: &mut Random, number: usize) -> Node {
-    let mut node = match random.below(if number == 0 { 3 } else { 11 }) as u8 {
-        0 => [0; 4],
-        kind @ 1..=2 => [kind, random.below(2) as u8, random.below(2) as u8, 0],
-        kind @ 3..=6 => [
-            kind,
-            random.below(number) as u8,
-            random.below(number) as u8,
-            0,
-        ],
-        kind => [kind, random.below(number) as u8, 0, 0],
-    };
-    if random.one_in(12) {
-        node[random.below(4)] = random.within(0..=12) as u8;
-    }
-    node
+fn large_charts(random: &mut Random) -> Vec<Question> {
+    let draft = subjects::large(random);
+    let least = random.within(0..=MOST_ACTIONS);
+    let made = maybe_changed(random, draft, least);
+    lend(random, &made)
 }

@@ -1,30 +1,31 @@
-//! Runs the proved library against the plain one on generated cards.
+//! Runs the proved library against the plain one on generated cards and logs.
 //!
-//!     compare [--cards N] [--seed S] [--time]
+//!     compare [--cards N] [--judgments N] [--seed S]
 //!
 //! Exit status 0: no difference. 1: a difference, or too little was compared.
 //! 2: arguments that are not understood.
 
-#![deny(unsafe_code)]
+#![forbid(unsafe_code)]
 
-#[allow(unsafe_code)]
-mod airpistil;
-mod compare;
-mod draft;
+mod cards;
 mod families;
-mod faults;
-mod random;
-mod sound;
-mod time;
+mod judgments;
+mod lending;
+mod question;
+mod run;
+mod spoiled;
+mod subjects;
 
 use std::process::ExitCode;
 
-const USAGE: &str = "usage: compare [--cards N] [--seed S] [--time]";
+use generate::random::Random;
+
+const USAGE: &str = "usage: compare [--cards N] [--judgments N] [--seed S]";
 
 struct Arguments {
     cards: usize,
+    judgments: usize,
     seed: u64,
-    time: bool,
 }
 
 fn main() -> ExitCode {
@@ -36,11 +37,7 @@ fn main() -> ExitCode {
         }
     };
     println!("seed {}", arguments.seed);
-    if arguments.time {
-        time::run(arguments.seed);
-        return ExitCode::SUCCESS;
-    }
-    match compare::run(arguments.cards, arguments.seed) {
+    match compare(&arguments) {
         Ok(()) => ExitCode::SUCCESS,
         Err(why) => {
             eprintln!("{why}");
@@ -49,17 +46,23 @@ fn main() -> ExitCode {
     }
 }
 
+fn compare(arguments: &Arguments) -> Result<(), String> {
+    let mut random = Random::new(arguments.seed);
+    cards::run(&mut random, arguments.cards)?;
+    judgments::run(&mut random, arguments.judgments)
+}
+
 fn read_arguments(mut words: impl Iterator<Item = String>) -> Result<Arguments, String> {
     let mut arguments = Arguments {
         cards: 250_000,
+        judgments: 100_000,
         seed: 20_260_101,
-        time: false,
     };
     while let Some(word) = words.next() {
         match word.as_str() {
             "--cards" => arguments.cards = number(&word, words.next())?,
+            "--judgments" => arguments.judgments = number(&word, words.next())?,
             "--seed" => arguments.seed = number(&word, words.next())?,
-            "--time" => arguments.time = true,
             _ => return Err(format!("unknown argument {word}")),
         }
     }

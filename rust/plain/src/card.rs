@@ -3,7 +3,10 @@
 //! Reading goes through the numbers 1 to 6 of the table in their order, since
 //! the table's "Order: 1 to 8 as numbered" decides which fault is given.
 
-use crate::chart::{Action, Chart, Direction, Loop, Pair};
+use std::rc::Rc;
+
+use crate::chart::{Action, Chart, Declared, Direction, Loop, Pair};
+use crate::refusal::{Refusal, refuse};
 
 /// "At most 4,096 bytes".
 const LARGEST_CARD: usize = 4096;
@@ -32,29 +35,18 @@ pub struct Checked {
     pub lifelines: u32,
 }
 
-/// Number and place by which a card is refused.
-#[derive(Debug, PartialEq, Eq, Clone, Copy)]
-pub struct Refusal {
-    pub number: u32,
-    pub place: u32,
-}
-
 /// A sound card, read.
 #[derive(Debug, PartialEq, Eq, Clone)]
 pub struct Card<'a> {
     pub note: &'a [u8],
-    /// How many lifelines are declared; their numbers start at 0.
-    pub lifelines: u8,
-    /// How many messages are declared; their numbers start at 0.
-    pub messages: u8,
-    pub chart: Chart,
+    pub declared: Declared,
+    pub chart: Rc<Chart>,
 }
 
 /// The trailer, once its own rules hold.
 struct Trailer {
     back: usize,
-    lifelines: u8,
-    messages: u8,
+    declared: Declared,
 }
 
 /// A node whose own rules hold; children are given by their numbers.
@@ -101,7 +93,7 @@ pub fn read(card: &[u8]) -> Result<Card<'_>, Refusal> {
     let (before, trailer) = read_trailer(card)?;
     // "The back distance is the count of bytes from the first node to the trailer".
     let (note, records) = before.split_at(before.len() - trailer.back);
-    let nodes = read_nodes(records, &trailer)?;
+    let nodes = read_nodes(records, trailer.declared)?;
     check_children(&nodes)?;
     // Only now are the nodes known to be a tree: "the last is the root".
     let chart = grow(&nodes, nodes.len() - 1);
@@ -111,16 +103,8 @@ pub fn read(card: &[u8]) -> Result<Card<'_>, Refusal> {
     }
     Ok(Card {
         note,
-        lifelines: trailer.lifelines,
-        messages: trailer.messages,
+        declared: trailer.declared,
         chart,
-    })
-}
-
-fn refuse<T>(number: u32, place: usize) -> Result<T, Refusal> {
-    Err(Refusal {
-        number,
-        place: place as u32,
     })
 }
 
@@ -148,22 +132,19 @@ fn read_trailer(card: &[u8]) -> Result<(&[u8], Trailer), Refusal> {
     if !(1..=MOST_LIFELINES).contains(&lifelines) || !(1..=MOST_MESSAGES).contains(&messages) {
         return refuse(3, 0);
     }
-    Ok((
-        before,
-        Trailer {
-            back,
-            lifelines,
-            messages,
-        },
-    ))
+    let declared = Declared {
+        lifelines,
+        messages,
+    };
+    Ok((before, Trailer { back, declared }))
 }
 
 /// Reads all nodes. "Nodes are numbered from 0", and the first one that breaks
 /// a rule is the "lowest such node" of number 4.
-fn read_nodes(records: &[u8], trailer: &Trailer) -> Result<Vec<Node>, Refusal> {
+fn read_nodes(records: &[u8], declared: Declared) -> Result<Vec<Node>, Refusal> {
     let mut nodes = Vec::new();
     for (number, record) in records.chunks_exact(RECORD).enumerate() {
-        match read_node(number, record, trailer) {
+        match read_node(number, record, declared) {
             Some(node) => nodes.push(node),
             None => return refuse(4, number),
         }
@@ -174,7 +155,7 @@ fn read_nodes(records: &[u8], trailer: &Trailer) -> Result<Vec<Node>, Refusal> {
 /// Reads one node, "kind, a, b, c"; nothing if it has "an unknown kind, a
 /// non-zero unused field, a lifeline or message not declared, or a child not
 /// lower than itself".
-fn read_node(number: usize, record: &[u8], trailer: &Trailer) -> Option<Node> {
+fn read_node(number: usize, record: &[u8], declared: Declared) -> Option<Node> {
     let [kind, a, b, c] = *record else {
         return None;
     };
@@ -186,8 +167,8 @@ fn read_node(number: usize, record: &[u8], trailer: &Trailer) -> Option<Node> {
         // "Kind 0: empty." Neither a nor b is used.
         0 if a == 0 && b == 0 => Some(Node::Empty),
         // "Kinds 1, 2: emission, reception; a is the lifeline, b the message."
-        1 => action(Direction::Emission, a, b, trailer),
-        2 => action(Direction::Reception, a, b, trailer),
+        1 => action(Direction::Emission, a, b, declared),
+        2 => action(Direction::Reception, a, b, declared),
         // "Kinds 3, 4, 5, 6: strict, weak sequence (seq), parallel (par), choice
         // (alt); a is the left child's node number, b the right's."
         3 => pair(Pair::Strict, a, b, number),
@@ -204,13 +185,13 @@ fn read_node(number: usize, record: &[u8], trailer: &Trailer) -> Option<Node> {
 }
 
 /// An action whose lifeline and message are declared.
-fn action(direction: Direction, lifeline: u8, message: u8, trailer: &Trailer) -> Option<Node> {
-    let declared = lifeline < trailer.lifelines && message < trailer.messages;
-    declared.then_some(Node::Action(Action {
+fn action(direction: Direction, lifeline: u8, message: u8, declared: Declared) -> Option<Node> {
+    let action = Action {
         direction,
         lifeline,
         message,
-    }))
+    };
+    declared.covers(&action).then_some(Node::Action(action))
 }
 
 /// A pair at a node: "A child's number is lower than its parent's."
@@ -254,15 +235,11 @@ fn count_places(nodes: &[Node]) -> Vec<usize> {
 }
 
 /// The tree below a node. It ends, since every child's number is lower.
-fn grow(nodes: &[Node], number: usize) -> Chart {
-    match nodes[number] {
+fn grow(nodes: &[Node], number: usize) -> Rc<Chart> {
+    Rc::new(match nodes[number] {
         Node::Empty => Chart::Empty,
         Node::Action(action) => Chart::Action(action),
-        Node::Pair(kind, left, right) => Chart::Pair(
-            kind,
-            Box::new(grow(nodes, left)),
-            Box::new(grow(nodes, right)),
-        ),
-        Node::Loop(kind, body) => Chart::Loop(kind, Box::new(grow(nodes, body))),
-    }
+        Node::Pair(kind, left, right) => Chart::Pair(kind, grow(nodes, left), grow(nodes, right)),
+        Node::Loop(kind, body) => Chart::Loop(kind, grow(nodes, body)),
+    })
 }

@@ -1,28 +1,44 @@
 //! A chart as a tree: what a sound card says, without its bytes.
 
 use std::collections::BTreeSet;
+use std::rc::Rc;
 
-/// A chart, or a part of one.
+/// A chart, or a part of one. A part may stand in several charts at once: the
+/// follow-up of a chart keeps the parts that stay as they are.
 #[derive(Debug, Clone, PartialEq, Eq)]
 pub enum Chart {
     Empty,
     Action(Action),
-    Pair(Pair, Box<Chart>, Box<Chart>),
-    Loop(Loop, Box<Chart>),
+    Pair(Pair, Rc<Chart>, Rc<Chart>),
+    Loop(Loop, Rc<Chart>),
 }
 
 /// One lifeline emitting or receiving one message.
-#[derive(Debug, Clone, Copy, PartialEq, Eq)]
+#[derive(Debug, Clone, Copy, PartialEq, Eq, PartialOrd, Ord)]
 pub struct Action {
     pub direction: Direction,
     pub lifeline: u8,
     pub message: u8,
 }
 
-#[derive(Debug, Clone, Copy, PartialEq, Eq)]
+#[derive(Debug, Clone, Copy, PartialEq, Eq, PartialOrd, Ord)]
 pub enum Direction {
     Emission,
     Reception,
+}
+
+/// How many lifelines and messages a card declares; both are numbered from 0.
+#[derive(Debug, Clone, Copy, PartialEq, Eq)]
+pub struct Declared {
+    pub lifelines: u8,
+    pub messages: u8,
+}
+
+impl Declared {
+    /// Whether the action's lifeline and message are declared.
+    pub fn covers(self, action: &Action) -> bool {
+        action.lifeline < self.lifelines && action.message < self.messages
+    }
 }
 
 /// How a left and a right part are composed.
@@ -44,6 +60,11 @@ pub enum Loop {
 }
 
 impl Chart {
+    /// A new pair of two parts.
+    pub fn pair(kind: Pair, left: Rc<Chart>, right: Rc<Chart>) -> Rc<Chart> {
+        Rc::new(Chart::Pair(kind, left, right))
+    }
+
     /// How many nodes the chart has.
     pub fn nodes(&self) -> usize {
         match self {

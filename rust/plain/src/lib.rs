@@ -3,6 +3,11 @@
 //!
 //! - `card`: reading and checking a chart card.
 //! - `chart`: the chart of a sound card, as a tree.
+//! - `log`: reading a log.
+//! - `prune`: when a chart terminates or evades a lifeline, and pruning.
+//! - `execute`: the occurrences of an action and their follow-ups.
+//! - `judge`: the search, its figures and the verdict.
+//! - `refusal`: how a card or a log is refused.
 //!
 //! Words in quotation marks in the comments are those of `01-scope.md`.
 
@@ -10,5 +15,11 @@
 
 pub mod card;
 pub mod chart;
+pub mod execute;
+pub mod judge;
+pub mod log;
+pub mod prune;
+pub mod refusal;
 
 pub use card::{Checked, check, note};
+pub use judge::{Judged, judge};

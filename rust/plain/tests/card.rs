@@ -1,6 +1,8 @@
 //! What `01-scope.md` says outright about cards, and each number once.
 
-use plain::chart::{Action, Chart, Direction, Pair};
+use std::rc::Rc;
+
+use plain::chart::{Action, Chart, Declared, Direction, Pair};
 use plain::{Checked, check, note};
 
 /// The card of the document's last example: strict(0!0, 1?0).
@@ -68,11 +70,15 @@ fn the_example_reads_as_its_chart() {
         lifeline: 1,
         message: 0,
     };
-    let left = Box::new(Chart::Action(emission));
-    let right = Box::new(Chart::Action(reception));
+    let left = Rc::new(Chart::Action(emission));
+    let right = Rc::new(Chart::Action(reception));
     let card = plain::card::read(&EXAMPLE).expect("the example is sound");
-    assert_eq!(card.chart, Chart::Pair(Pair::Strict, left, right));
-    assert_eq!((card.lifelines, card.messages), (2, 1));
+    assert_eq!(card.chart, Chart::pair(Pair::Strict, left, right));
+    let declared = Declared {
+        lifelines: 2,
+        messages: 1,
+    };
+    assert_eq!(card.declared, declared);
 }
 
 #[test]

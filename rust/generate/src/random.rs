@@ -1,4 +1,4 @@
-//! A seeded generator (splitmix64): the same seed gives the same cards.
+//! A seeded generator (splitmix64): the same seed gives the same inputs.
 
 use std::ops::RangeInclusive;
 
@@ -60,5 +60,10 @@ impl Random {
         }
         bytes.truncate(length);
         bytes
+    }
+
+    /// 32-bit numbers, none of them 0.
+    pub fn words(&mut self, length: usize) -> Vec<u32> {
+        (0..length).map(|_| self.next() as u32 | 1).collect()
     }
 }

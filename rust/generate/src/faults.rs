@@ -2,6 +2,7 @@
 
 use std::ops::RangeInclusive;
 
+use crate::charts::put_behind;
 use crate::draft::{Draft, LARGEST_CARD, LARGEST_DEPTH, MARK, MOST_NODES, TRAILER, children};
 use crate::random::Random;
 use crate::sound;
@@ -268,13 +269,7 @@ fn put_beside(random: &mut Random, draft: &mut Draft) -> bool {
     }
     let size = random.edge(1..=MOST_NODES - first);
     let second = sound::nodes(random, size, LARGEST_DEPTH, draft.lifelines, draft.messages);
-    for mut node in second {
-        let named = children(&node).len();
-        for child in &mut node[1..=named] {
-            *child += first as u8;
-        }
-        draft.nodes.push(node);
-    }
+    put_behind(&mut draft.nodes, second);
     draft.back = draft.right_back();
     fits(draft)
 }

@@ -57,9 +57,15 @@ pub fn with_note(random: &mut Random, size: usize) -> Draft {
 
 /// A sound card of so many nodes, without a note.
 pub fn sized(random: &mut Random, size: usize) -> Draft {
-    let depth = random.within(least_depth(size)..=LARGEST_DEPTH);
     let lifelines = random.within(1..=16) as u8;
     let messages = random.within(1..=64) as u8;
+    declaring(random, size, lifelines, messages)
+}
+
+/// A sound card of so many nodes that declares so many lifelines and messages,
+/// without a note.
+pub fn declaring(random: &mut Random, size: usize, lifelines: u8, messages: u8) -> Draft {
+    let depth = random.within(least_depth(size)..=LARGEST_DEPTH);
     let nodes = nodes(random, size, depth, lifelines, messages);
     Draft::new(nodes, lifelines, messages)
 }

@@ -1,38 +1,49 @@
-//! Measures how long both programs take to check the same cards. Nothing is
-//! lent to a card check but the card, so no buffer has to be cleared.
+//! Measures card checks. Nothing is lent to them but the card, so no buffer has
+//! to be cleared.
 
 use std::hint::black_box;
-use std::time::Instant;
 
+use generate::cards::{Card, FAMILIES, damage};
+use generate::draft::MOST_NODES;
+use generate::random::Random;
+use generate::sound;
 use plain::Checked;
 
-use crate::airpistil;
-use crate::draft::MOST_NODES;
-use crate::families::{Card, FAMILIES, damage};
-use crate::random::Random;
-use crate::sound;
+use crate::measure::{ROUNDS, best};
 
+const SEED: u64 = 20_260_101;
 /// Cards in each set, those of the mix in all.
 const CARDS: usize = 1000;
 /// How often a round goes through a set.
 const PASSES: usize = 5;
-/// The best round counts: it is the one least disturbed by other work.
-const ROUNDS: usize = 9;
 
 type Cards = Vec<Vec<u8>>;
 
 /// Prints nanoseconds per card for each set of cards.
-pub fn run(seed: u64) {
-    let mut random = Random::new(seed);
-    println!("nanoseconds per card, best of {ROUNDS} rounds");
+pub fn run() {
+    let mut random = Random::new(SEED);
+    println!("nanoseconds per card check, less is faster, best of {ROUNDS} rounds");
     println!(
-        "{:<32} {:>10} {:>10} {:>16}",
-        "cards", "plain", "airpistil", "airpistil/plain"
+        "{:<32} {:>10} {:>10} {:>13}",
+        "cards", "plain", "proved", "proved/plain"
     );
     for (name, cards) in sets(&mut random) {
-        let (plain, airpistil) = measure(&cards);
-        let ratio = airpistil / plain;
-        println!("{name:<32} {plain:>10.1} {airpistil:>10.1} {ratio:>16.3}");
+        let round = best(
+            || check_all(&cards, plain::check),
+            || check_all(&cards, proved::check),
+        );
+        let checks = (PASSES * cards.len()) as f64;
+        let (plain, proved) = (round.plain / checks, round.proved / checks);
+        let ratio = proved / plain;
+        println!("{name:<32} {plain:>10.1} {proved:>10.1} {ratio:>13.3}");
+    }
+}
+
+fn check_all(cards: &Cards, check: fn(&[u8]) -> Checked) {
+    for _ in 0..PASSES {
+        for card in cards {
+            black_box(check(black_box(card)));
+        }
     }
 }
 
@@ -79,26 +90,4 @@ fn mixed_cards(random: &mut Random) -> Cards {
         }
     }
     cards
-}
-
-/// The best rounds of both programs. Their rounds take turns, so that a change
-/// of the machine's speed meets both.
-fn measure(cards: &Cards) -> (f64, f64) {
-    let mut best = (f64::INFINITY, f64::INFINITY);
-    for _ in 0..ROUNDS {
-        best.0 = best.0.min(round(cards, plain::check));
-        best.1 = best.1.min(round(cards, airpistil::check));
-    }
-    best
-}
-
-/// Nanoseconds per card over one round.
-fn round(cards: &Cards, check: fn(&[u8]) -> Checked) -> f64 {
-    let start = Instant::now();
-    for _ in 0..PASSES {
-        for card in cards {
-            black_box(check(black_box(card)));
-        }
-    }
-    start.elapsed().as_nanos() as f64 / (PASSES * cards.len()) as f64
 }

@@ -1,0 +1,21 @@
+//! Cards and logs on which the two libraries are compared and measured: made by
+//! a seeded generator, rightly or with faults.
+//!
+//! - `random`: the generator.
+//! - `draft`: a card in the making.
+//! - `charts`: the nodes of charts put together by hand.
+//! - `sound`: sound cards of every shape.
+//! - `faults`: every cause of the numbers 1 to 6.
+//! - `family`: a family of inputs; `cards`: the families of cards.
+//! - `logs`: logs made by executing a chart.
+
+#![forbid(unsafe_code)]
+
+pub mod cards;
+pub mod charts;
+pub mod draft;
+pub mod family;
+pub mod faults;
+pub mod logs;
+pub mod random;
+pub mod sound;

@@ -1,0 +1,15 @@
+//! How a card or a log is refused.
+
+/// Number and place by which a card or a log is refused.
+#[derive(Debug, PartialEq, Eq, Clone, Copy)]
+pub struct Refusal {
+    pub number: u32,
+    pub place: u32,
+}
+
+pub(crate) fn refuse<T>(number: u32, place: usize) -> Result<T, Refusal> {
+    Err(Refusal {
+        number,
+        place: place as u32,
+    })
+}
