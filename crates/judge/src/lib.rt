@@ -26,7 +26,7 @@ pub struct Judged {
     pub places: u32,
 }
 
-// A refusal has no figures.
+// A refusal has no figures, and neither has a chart that exceeds the room.
 fn refused(number: u32, place: u32) -> Judged
     ensures { λ r. ⌜ r ≡ refusedAt number place ⌝ }
 {

@@ -1,4 +1,4 @@
-// Places of a room, read and written. These functions alone touch its numbers.
+// Places of a room, read and written. While a log is judged these functions alone touch its numbers.
 ghost use mathlib.Core.Path.{_≡_};
 ghost use Prim.Native.Nat.{_<_};
 ghost use lib.ListN.{length};

@@ -107,15 +107,15 @@ pub fn search(log: &[u8], room: &mut [u32], root: Root, allowance: u32, places: 
         let ended = attempt(rest, room, x, left, most);
         let Ended::Failed {
             deepest: beyond,
-            left: l,
-            places: p,
+            left: unspent,
+            places: highest,
         } = ended
         else {
             return ended;
         };
         deepest = larger(deepest, 1 + beyond);
-        left = l;
-        most = p;
+        left = unspent;
+        most = highest;
         k += 1;
     }
 }
