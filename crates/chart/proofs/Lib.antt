@@ -12,7 +12,6 @@ pub mod Following
 pub mod Exploring
 pub mod Extending
 pub mod Walking
-pub mod Deepest
 pub mod Spending
 pub mod Numbers
 pub mod Agreement

@@ -1,6 +1,5 @@
 -- Which numbers a judgment gives: 1 to 8 exactly where card or log are refused, and 9, 10 or a verdict exactly where
--- they
--- are not. A card and a log are one or the other, and the numbers tell them apart.
+-- they are not. A card and a log are one or the other, and the numbers tell them apart.
 -- Assumes nothing.
 use Prim.Native.Nat.{ℕ, _%_, _<_, _≤_}
 use mathlib.Core.List.{List}

@@ -2,13 +2,11 @@
 -- cites others.
 --
 -- `judge` returns `judgment` of card, log, allowance and the room's length, and leaves `roomAfter` of card, log and
--- room:
--- that is its contract (src/lib.rt), of which `Judges` is the two equations. What is said here of the two definitions
--- (specs/Judgment.antt) is therefore said of the code.
--- `Published` is a chart's trace set as document 000 composes it, `cardChart` the chart that a card is, `logOf` the log
--- that bytes are. `Begins`, `Longer` and `Longest` speak of openings, `Reaches`, `Wants` and `Exceeds` of a lending
--- (crate
--- `chart`). `Refused` and `SoundBoth` are 01's table, numbers 1 to 8, as conditions (specs/Table.antt).
+-- room: that is its contract (src/lib.rt), of which `Judges` is the two equations. What is said here of the two
+-- definitions (specs/Judgment.antt) is therefore said of the code. `Published` is a chart's trace set as document 000
+-- composes it, `cardChart` the chart that a card is, `logOf` the log that bytes are. `Begins`, `Longer` and `Longest`
+-- speak of openings, `Reaches`, `Wants` and `Exceeds` of a lending (crate `chart`). `Refused` and `SoundBoth` are 01's
+-- table, numbers 1 to 8, as conditions (specs/Table.antt).
 -- Assumes nothing.
 use Prim.Native.Nat.{ℕ, _<_, _≤_}
 use mathlib.Core.List.{List, _++_}
@@ -197,8 +195,7 @@ module _ (card log : List ℕ) (allowance : ℕ) (room : List ℕ) where
         same-answer ∙ ap judgedOf (demands.ten-has-the-figures-reached chart t allowance places k h)
 
   -- "Once a log deviates, every sound longer log beginning with it gets the same verdict, place and figures", whatever
-  -- is
-  -- lent.
+  -- is lent.
   pub once-deviating-the-same-for-ever : given .number ≡ 22 → (more : List ℕ) → SoundBoth card (log ++ more)
       → (lent : ℕ) (lentRoom : List ℕ)
       → judgment card (log ++ more) lent (length lentRoom) ≡ judgment card log lent (length lentRoom)

@@ -12,8 +12,7 @@ abbrev pub OddOrLong : List ℕ → Type 0
 OddOrLong log = length log % 2 ≢ 0 ⊎ 256 < length log
 
 -- 8: log action i has a lifeline or message not declared. "Two bytes an action: lifeline times 2, plus 0 for emission
--- or 1
--- for reception; then the message" (01, The log).
+-- or 1 for reception; then the message" (01, The log).
 abbrev pub UndeclaredAt : List ℕ → List ℕ → ℕ → Type 0
 UndeclaredAt card log i = lifelines card ≤ byte log (i * 2) / 2 ⊎ messages card ≤ byte log (i * 2 + 1)
 

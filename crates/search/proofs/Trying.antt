@@ -16,7 +16,6 @@ use Rattle.chart.specs.Chart.{Chart}
 use Rattle.chart.specs.Executing.{Made, chartOf, costOf}
 use Rattle.chart.specs.Executing.Made.{newEmpty}
 use Rattle.chart.specs.Lending.{Ending, followUp, walk}
-use Rattle.chart.proofs.Deepest.{Within, follow-up-within, walk-within}
 use Rattle.room.specs.declared.Root.{Root}
 use Rattle.room.specs.declared.Executed.the-variants.{FollowUp}
 use Rattle.room.specs.Room.{chartIn}
@@ -26,6 +25,7 @@ use Rattle.follow.proofs.Onward.{exceeds-the-room, follow-up-costs, follow-up-s
 use Rattle.search.specs.declared.Ended.{Ended}
 use Rattle.search.specs.declared.Ended.the-variants.{Found, Failed, Stopped}
 use Rattle.search.specs.Ending.{leftOf, Leaves, Searches, Attempts}
+use Rattle.search.proofs.Deepest.{Within, follow-up-within, walk-within}
 
 -- A stop for want of room says nothing of the follow-up.
 stopped-alike :

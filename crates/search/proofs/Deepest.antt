@@ -7,10 +7,11 @@ use mathlib.Core.List.{List, [], _∷_}
 use native.Mathlib.Omega.{arith}
 use lib.Dec.{leb, ltb}
 use lib.ListN.{length}
 use Rattle.chart.specs.Action.{Log}
 use Rattle.chart.specs.Chart.{Chart}
 use Rattle.chart.specs.Executing.{Made, chartOf, costOf, terminates, follows}
-use Rattle.chart.specs.Lending.{Ending, found, failed, stopped, followUp, deepened, orNext, attempts, walk}
+use Rattle.chart.specs.Lending.{Ending, followUp, deepened, orNext, attempts, walk}
+use Rattle.chart.specs.Lending.Ending.{found, failed, stopped}
 
 -- If every choice failed, at most n actions were executed on one path.
 abbrev pub Within : ℕ → Ending → Type 0
