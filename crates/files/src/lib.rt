@@ -1,5 +1,6 @@
 // The program's work: the files `chart` and `log` of its directory are read and judged, and one line is written (01,
 // "Logs worked by hand").
+ghost use Rattle.files.specs.Reading.{ReadInto};
 use judge::Judged;
 
 // The allowance and the room that the program lends.
@@ -11,6 +12,12 @@ const ROOM: usize = 16384;
 const CARD: usize = 4097;
 
 const LOG: usize = 257;
+
+// What reading a file came to: how many bytes it has, or nothing that can be relied on.
+pub enum Content {
+    Bytes(usize),
+    Nothing,
+}
 
 fn say(text: &[u8]) {
     io::write_all(1, text);
@@ -57,7 +64,31 @@ fn open_log() -> i32 {
     os::open_read(b"log")
 }
 
-// Reads both files as far as the lent bytes go, and judges what was read.
+// Reads a file as far as the lent bytes go. A file that is missing has no descriptor. One that fails while it is read
+// counts as missing: what was read of it is no whole log.
+fn read(file: i32, bytes: &mut [u8]) -> Content
+    ensures { λ r. ⌜ ReadInto (now (bytes .exit)) r ⌝ }
+{
+    if file < 0 {
+        return Content::Nothing;
+    }
+    let long = bytes.len();
+    let mut end = 0;
+    while end < long {
+        let got = libc::read(file, &mut bytes[end..long]);
+        if got < 0 {
+            return Content::Nothing;
+        }
+        let more = io::count(got, &bytes[end..long]);
+        if more == 0 {
+            return Content::Bytes(end);
+        }
+        end += more;
+    }
+    Content::Bytes(end)
+}
+
+// Judges the two files; if either cannot be read, says so.
 fn judge_files(
     chart: i32,
     log: i32,
@@ -65,8 +96,16 @@ fn judge_files(
     log_bytes: &mut [u8],
     room: &mut [u32],
 ) {
-    let card_end = io::read_full(chart, card_bytes);
-    let log_end = io::read_full(log, log_bytes);
+    let card = read(chart, card_bytes);
+    let Content::Bytes(card_end) = card else {
+        tell_no_file();
+        return;
+    };
+    let actions = read(log, log_bytes);
+    let Content::Bytes(log_end) = actions else {
+        tell_no_file();
+        return;
+    };
     tell(judge::judge(
         &card_bytes[0..card_end],
         &log_bytes[0..log_end],
@@ -75,14 +114,10 @@ fn judge_files(
     ));
 }
 
-// Judges the files of the directory; if either is missing, says so.
+// Judges the files of the directory.
 pub fn run() {
     let chart = open_chart();
     let log = open_log();
-    if chart < 0 || log < 0 {
-        tell_no_file();
-        return;
-    }
     let mut card_bytes = [0u8; CARD];
     let mut log_bytes = [0u8; LOG];
     let mut room = [0u32; ROOM];

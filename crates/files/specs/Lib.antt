@@ -1,0 +1,2 @@
+-- What reading a file comes to.
+pub mod Reading
