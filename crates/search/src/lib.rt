@@ -61,6 +61,7 @@ fn attempt(rest: &[u8], room: &mut [u32], x: Root, allowance: u32, places: u32) 
     ensures { λ r.
         ⌜ Attempts (now (room .entry)) (logOf (now (rest .entry))) x allowance places (now (room .exit)) r ⌝ }
 {
+    let exceeds = room.len() < x.used as usize;
     if allowance == 0 {
         return Ended::Stopped {
             number: 9,
@@ -68,7 +69,7 @@ fn attempt(rest: &[u8], room: &mut [u32], x: Root, allowance: u32, places: u32) 
             places,
         };
     }
-    if room.len() < x.used as usize {
+    if exceeds {
         return Ended::Stopped {
             number: 10,
             left: allowance,

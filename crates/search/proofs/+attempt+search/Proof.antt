@@ -6,6 +6,7 @@ use mathlib.Core.List.{[], _∷_}
 use mathlib.Core.Path.{refl, sym, ap, _∙_}
 use native.Mathlib.Omega.{arith}
 use lib.ListN.{length, take, drop, length-take}
+use borrow.Author.Tests.{ltb-true, ltb-false}
 use borrow.Fn.Kinds.{In}
 use borrow.Fn.PlainCycle.{Measures, is, falls, and}
 use Rattle.log.specs.Bytes.{logOf}
@@ -145,19 +146,19 @@ module _ (t : ℕ) where
       (c .before .before .before .before .attempt .last .1 .0) (Failed beyond l p))
   failing c = rw (c .ended .given .1) at (c .before .before .before .before .attempt .ensures)
 
+  attempt-cast-exceeds : attempt-lts.Need-cast-exceeds attempt-claims attempt-at attempt.Post
+  attempt-cast-exceeds c = omega arith
+
   attempt-returns : attempt-lts.Need-returns attempt-claims attempt-at attempt.Post
   attempt-returns c =
-      let s = c .before .before .before .args in
+      let s = c .before .before .before .before .args in
       spent-stops (s .room .now) (logOf (s .rest .now)) (s .x) (s .allowance) (s .places) (c .if1 .taken)
-
-  attempt-cast-if2 : attempt-lts.Need-cast-if2 attempt-claims attempt-at attempt.Post
-  attempt-cast-if2 c = omega arith
 
   attempt-returns-2 : attempt-lts.Need-returns-2 attempt-claims attempt-at attempt.Post
   attempt-returns-2 c =
       let s = c .before .before .before .before .before .args in
-      exceeding-stops (s .room .now) (logOf (s .rest .now)) (s .x) (s .allowance) (s .places)
-      (c .before .before .if1 .left) (omega arith)
+      exceeding-stops (s .room .now) (logOf (s .rest .now)) (s .x) (s .allowance) (s .places) (c .before .if1 .left)
+      (ltb-true (length (s .room .now)) (s .x .used) (c .if2 .taken))
 
   attempt-sub-search : attempt-lts.Need-sub-search attempt-claims attempt-at attempt.Post
   attempt-sub-search c = omega arith
@@ -169,7 +170,8 @@ module _ (t : ℕ) where
   attempt-search-requires c κs =
       let s = c .before .before .before .before .before .before .before .args in
       let held = c .before .before .before .before .before .before .before .pre .1 .0 in
-      let below = held .below (omega arith) in (
+      let fits = ltb-false (length (s .room .now)) (s .x .used) (c .before .before .if2 .left) in
+      let below = held .below fits in (
         omega (arith, c .before .before .before .before .before .before .before .pre .0),
         (
           held .table,
@@ -187,9 +189,10 @@ module _ (t : ℕ) where
       let s = c .before .before .before .before .before .before .before .before .before .before .args in
       let most = c .before .before .before .larger .ensures in
       fitting-goes-on (s .room .now) (logOf (s .rest .now)) (s .x) (s .allowance) (s .places)
-      (c .before .before .before .before .before .before .before .if1 .left)
-      (c .before .before .search .last .1 .0) (c .before .before .search .result) (omega arith) (rw most at
-      (c .before .before .search .ensures))
+      (c .before .before .before .before .before .before .if1 .left)
+      (c .before .before .search .last .1 .0) (c .before .before .search .result) (ltb-false (length (s .room .now))
+      (s .x .used) (c .before .before .before .before .before .if2 .left))
+      (rw most at (c .before .before .search .ensures))
 
   search-at-end-requires : search-lts.Need-at-end-requires search-claims search-at search′.Post search-Inv-loop
       search-μ-loop
@@ -342,8 +345,8 @@ pub +attempt+search-spec : {M : Type 1} → statement M
     (attempt-claims t)
     (attempt-at t)
     attempt.Post
+    (attempt-cast-exceeds t)
     (attempt-returns t)
-    (attempt-cast-if2 t)
     (attempt-returns-2 t)
     (attempt-sub-search t)
     (attempt-larger-requires t)
