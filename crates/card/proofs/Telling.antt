@@ -32,7 +32,7 @@ use Rattle.card.proofs.Deciding.{same-count, fault-decided, misuse-deci
 use Rattle.card.proofs.LowestAt.{Looked, look, none→fine, lowest→refused}
 use Rattle.card.proofs.LowestAt.Looked.{nowhere, somewhere}
 use Rattle.card.proofs.Answers.{Passed, answer-one, answer-two, answer-three}
-use Rattle.card.proofs.Answers.{nothing-found, answer-four, answer-five, answer-six, answer-sound}
+use Rattle.card.proofs.Answers.{nothing-found, answer-four, answer-five, answer-six}
 
 four-is-real : _≢_ {A = ℕ} 4 0
 four-is-real e = omega arith
@@ -105,11 +105,8 @@ module _ (card : List ℕ) where
 
   -- A sound card has its figures.
   pub sound→answer : Sound card → checking card ≡ soundness nodes
-  sound→answer s =
-      let tree = s .tree in
-      let t = tree .ordered .trailed in
-      let shallow : ¬ (16 < depthOf nodes) = s .shallow in
-      answer-sound card (passed t) (no-fault (tree .ordered)) (no-misuse tree) (omega arith)
+  unfolding checking
+  sound→answer s = rw (sound→nothing-found s)
 
   numbered : {a : Checked} → checking card ≡ a → (checking card .number ≡ a .number) × (checking card .place ≡ a .place)
   numbered e = (ap (λ a. a .number) e, ap (λ a. a .place) e)

@@ -1,2 +1,3 @@
--- What reading a file comes to.
+-- What reading a file comes to, and what the program has to tell.
 pub mod Reading
+pub mod Telling

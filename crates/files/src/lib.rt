@@ -1,6 +1,9 @@
 // The program's work: the files `chart` and `log` of its directory are read and judged, and one line is written (01,
 // "Logs worked by hand").
+ghost use mathlib.Core.Path.{_≡_};
+ghost use lib.ListN.{length};
 ghost use Rattle.files.specs.Reading.{ReadInto};
+ghost use Rattle.files.specs.Telling.{Tells, Reports};
 use judge::Judged;
 
 // The allowance and the room that the program lends.
@@ -8,7 +11,7 @@ const ALLOWANCE: u32 = 1000000;
 
 const ROOM: usize = 16384;
 
-// One byte more than a card or a log may have: a longer file is read far enough to be refused.
+// The bytes for a card and for a log.
 const CARD: usize = 4097;
 
 const LOG: usize = 257;
@@ -17,6 +20,12 @@ const LOG: usize = 257;
 pub enum Content {
     Bytes(usize),
     Nothing,
+}
+
+// What the program tells: the judgment of its two files, or that one is missing.
+pub enum Told {
+    Answer(Judged),
+    NoFile,
 }
 
 fn say(text: &[u8]) {
@@ -44,7 +53,7 @@ fn say_word(number: u32) {
 }
 
 // One line: word, place, steps, places.
-fn tell(judged: Judged) {
+fn say_line(judged: Judged) {
     say_word(judged.number);
     say_number(judged.place);
     say_number(judged.steps);
@@ -52,8 +61,15 @@ fn tell(judged: Judged) {
     say(b"\n");
 }
 
-fn tell_no_file() {
+fn say_no_file() {
     say(b"no-file 0 0 0\n");
+}
+
+fn tell(told: Told) {
+    match told {
+        Told::Answer(judged) => say_line(judged),
+        Told::NoFile => say_no_file(),
+    }
 }
 
 fn open_chart() -> i32 {
@@ -88,40 +104,41 @@ fn read(file: i32, bytes: &mut [u8]) -> Content
     Content::Bytes(end)
 }
 
-// Judges the two files; if either cannot be read, says so.
+// The judgment of the two files, read into the lent bytes: one more than a card or a log may have, so that a file that
+// fills them is refused.
 fn judge_files(
-    chart: i32,
-    log: i32,
-    card_bytes: &mut [u8],
-    log_bytes: &mut [u8],
+    chart_file: i32,
+    log_file: i32,
+    card: &mut [u8],
+    log: &mut [u8],
     room: &mut [u32],
-) {
-    let card = read(chart, card_bytes);
-    let Content::Bytes(card_end) = card else {
-        tell_no_file();
-        return;
+) -> Told
+    requires { ⌜ (length (now card) ≡ 4097) × (length (now log) ≡ 257) ⌝ }
+    ensures { λ r. ⌜ Tells (now (card .exit)) (now (log .exit)) (now (room .entry)) (now (room .exit)) r ⌝ }
+{
+    let chart_read = read(chart_file, card);
+    let Content::Bytes(card_end) = chart_read else {
+        return Told::NoFile;
     };
-    let actions = read(log, log_bytes);
-    let Content::Bytes(log_end) = actions else {
-        tell_no_file();
-        return;
+    let log_read = read(log_file, log);
+    let Content::Bytes(log_end) = log_read else {
+        return Told::NoFile;
     };
-    tell(judge::judge(
-        &card_bytes[0..card_end],
-        &log_bytes[0..log_end],
-        ALLOWANCE,
-        room,
-    ));
+    Told::Answer(judge::judge(&card[0..card_end], &log[0..log_end], ALLOWANCE, room))
 }
 
-// Judges the files of the directory.
-pub fn run() {
-    let chart = open_chart();
-    let log = open_log();
-    let mut card_bytes = [0u8; CARD];
-    let mut log_bytes = [0u8; LOG];
+// Judges the files of the directory, writes the line, and returns what it tells.
+pub fn run() -> Told
+    ensures { λ r. ⌜ Reports r ⌝ }
+{
+    let chart_file = open_chart();
+    let log_file = open_log();
+    let mut card = [0u8; CARD];
+    let mut log = [0u8; LOG];
     let mut room = [0u32; ROOM];
-    judge_files(chart, log, &mut card_bytes, &mut log_bytes, &mut room);
-    libc::close(chart);
-    libc::close(log);
+    let told = judge_files(chart_file, log_file, &mut card, &mut log, &mut room);
+    libc::close(chart_file);
+    libc::close(log_file);
+    tell(told);
+    told
 }

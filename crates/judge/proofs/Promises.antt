@@ -2,7 +2,7 @@
 -- cites others.
 --
 -- `judge` returns `judgment` of card, log, allowance and the room's length, and leaves `roomAfter` of card, log and
--- room: that is its contract (src/lib.rt), of which `Judges` is the two equations. What is said here of the two
+-- room: that is its contract (src/lib.rt), and `Judges` its two equations. What is said here of the two
 -- definitions (specs/Judgment.antt) is therefore said of the code. `Published` is a chart's trace set as document 000
 -- composes it, `cardChart` the chart that a card is, `logOf` the log that bytes are. `Begins`, `Longer` and `Longest`
 -- speak of openings, `Reaches`, `Wants` and `Exceeds` of a lending (crate `chart`). `Refused` and `SoundBoth` are 01's
@@ -26,9 +26,8 @@ use Rattle.card.specs.Nodes.{cardChart}
 use Rattle.log.specs.Bytes.{logOf, actionsOf}
 use Rattle.log.proofs.Actions.{as-many-actions, log-of-both}
 use Rattle.judge.specs.declared.Judged.{Judged}
-use Rattle.judge.specs.Judgment.{usable, judgedOf, judgment, roomAfter}
+use Rattle.judge.specs.Judgment.{usable, judgedOf, judgment, roomAfter, Judges}
 use Rattle.judge.specs.Table.{Refused, SoundBoth}
-use Rattle.judge.proofs.Refusing.{Judges}
 use Rattle.judge.proofs.Telling.{sound-judges}
 use Rattle.judge.proofs.Numbers.{number-of-any, refused-iff, sound-iff, refused-figures, refused-room, whole-log}
 use Rattle.judge.proofs.Wiped.{zeros-inside, kept-beyond, same-length}

@@ -20,12 +20,7 @@ use Rattle.card.proofs.Telling.{sound→nothing-found}
 use Rattle.log.specs.Bytes.{logOf}
 use Rattle.log.specs.Refusing.{refusing}
 use Rattle.judge.specs.declared.Judged.{Judged}
-use Rattle.judge.specs.Judgment.{usable, judgedOf, refusedAt, returned, judgment, leaves, roomAfter}
-
--- What a judgment returns and leaves.
-abbrev pub Judges : List ℕ → List ℕ → ℕ → List ℕ → Judged → List ℕ → Type 0
-Judges card log allowance room r after =
-    (r ≡ judgment card log allowance (length room)) × (after ≡ roomAfter card log room)
+use Rattle.judge.specs.Judgment.{usable, judgedOf, refusedAt, returned, judgment, leaves, roomAfter, Judges}
 
 refused-first :
     (f g : Finding) (sound : Checked) (a : Answer) (room : List ℕ) → sound .number ≡ 0 → answered f sound .number ≢ 0
@@ -40,7 +35,7 @@ zeroed room part end n is zeros = rw (is, zeros)
 
 module _ (card log : List ℕ) (allowance : ℕ) (room : List ℕ) where
   -- The answer to the card's chart and the log.
-  abbrev pub answered-by-the-chart : Answer
+  abbrev answered-by-the-chart : Answer
   answered-by-the-chart = answer (cardChart card) (logOf log) allowance (usable (length room))
 
   -- The card was refused: 1 to 6.

@@ -24,11 +24,11 @@ use Rattle.card.proofs.Promises.{given-exactly-as-the-table-tells, zero-exactly
 use Rattle.card.proofs.Telling.{sound→nothing-found}
 use Rattle.log.specs.Bytes.{logOf, actionAt}
 use Rattle.log.specs.Refusing.{inRule, declared, undeclared, refusing}
-use Rattle.judge.specs.Judgment.{usable, judgedOf, refusedAt, judgment, cleared, roomAfter}
+use Rattle.judge.specs.Judgment.{usable, judgedOf, refusedAt, judgment, cleared, roomAfter, Judges}
 use Rattle.judge.specs.Table as table
 use Rattle.judge.specs.Table.{OddOrLong, UndeclaredAt, SoundBoth}
 use Rattle.judge.specs.Table.Refused.{by-the-card, seven, eight}
-use Rattle.judge.proofs.Refusing.{Judges, card-refused, log-refused}
+use Rattle.judge.proofs.Refusing.{card-refused, log-refused}
 
 eight-is-real : _≢_ {A = ℕ} 8 0
 eight-is-real e = omega arith
@@ -56,8 +56,8 @@ module _ (card log : List ℕ) where
     found-seven h = rw (if-so (rule-decided log) h)
 
     module _ (whole : ¬ OddOrLong log) where
-      found-undeclared : refusing (lifelinesOf card) (messagesOf card) log ≡ undeclared (lifelinesOf card) (messagesOf
-          card) log
+      found-undeclared : refusing (lifelinesOf card) (messagesOf card) log
+          ≡ undeclared (lifelinesOf card) (messagesOf card) log
       found-undeclared = rw (if-not (rule-decided log) whole)
 
       found-eight : (i : ℕ) → Lowest (UndeclaredAt card log) (length log / 2) i

@@ -2,6 +2,7 @@
 -- Assumes nothing.
 use Prim.Native.Nat.{ℕ, min}
 use mathlib.Core.List.{List, _++_}
+use mathlib.Core.Path.{_≡_}
 use lib.ListN.{length, drop, replicate}
 use Rattle.chart.specs.Lending.{Answer, answer}
 use Rattle.card.specs.declared.Finding.{Finding}
@@ -53,3 +54,8 @@ leaves (Refused number place) room = room
 -- The room after a judgment.
 unfoldable pub roomAfter : List ℕ → List ℕ → List ℕ → List ℕ
 roomAfter card log room = leaves (refusal card log) room
+
+-- What a judgment has to return and to leave: both equations of the contract.
+abbrev pub Judges : List ℕ → List ℕ → ℕ → List ℕ → Judged → List ℕ → Type 0
+Judges card log allowance room r after =
+    (r ≡ judgment card log allowance (length room)) × (after ≡ roomAfter card log room)

@@ -8,7 +8,7 @@ use mathlib.Core.Path.{_≡_, refl, ap}
 use native.Mathlib.Omega.{arith}
 use lib.Dec.{eqb, leb}
 use lib.ListN.{length}
-use borrow.Author.Tests.{eqb-true, leb-true}
+use borrow.Author.Tests.{leb-true}
 use Rattle.chart.proofs.Tests.{both-true}
 use Rattle.card.specs.declared.Finding.the-variants.{Fine, Refused}
 use Rattle.card.specs.Findings.{lowest}
@@ -17,21 +17,17 @@ use Rattle.card.proofs.Lowest.{or-fine→, fine-so-far, found-here}
 use Rattle.log.specs.Bytes.{actionAt}
 use Rattle.log.specs.Refusing.{inRule, declared, undeclaredOf, undeclared, refusing}
 
-module _ (log : List ℕ) (passed : inRule log ≡ true) where
-  pub in-rule-is-even : length log % 2 ≡ 0
-  in-rule-is-even =
-      eqb-true (length log % 2) 0 (both-true (eqb (length log % 2) 0) (leb (length log) 256) passed .0)
-
-  pub in-rule-is-short : length log ≤ 256
-  in-rule-is-short = leb-true (length log) 256 (both-true (eqb (length log % 2) 0) (leb (length log) 256) passed .1)
+pub in-rule-is-short : (log : List ℕ) → inRule log ≡ true → length log ≤ 256
+in-rule-is-short log passed =
+    leb-true (length log) 256 (both-true (eqb (length log % 2) 0) (leb (length log) 256) passed .1)
 
 -- A log in which nothing is found is in rule.
 passes : (b : Bool) → rule 7 b ≡ Fine → b ≡ true
 passes true h = refl
 passes false h = cc
 
-pub fine-is-in-rule : (lifelines messages : ℕ) (log : List ℕ) → refusing lifelines messages log ≡ Fine → inRule log ≡
-    true
+pub fine-is-in-rule :
+    (lifelines messages : ℕ) (log : List ℕ) → refusing lifelines messages log ≡ Fine → inRule log ≡ true
 fine-is-in-rule lifelines messages log h =
     passes (inRule log) (or-fine→ (rule 7 (inRule log)) (undeclared lifelines messages log) h .0)
 

@@ -3,7 +3,7 @@ ghost use mathlib.Core.Path.{_≡_};
 ghost use Prim.Native.Nat.{_<_, _≤_};
 ghost use lib.ListN.{length};
 ghost use Rattle.room.specs.Building.{actionOf};
-ghost use Rattle.log.specs.Bytes.{actionsOf, actionAt};
+ghost use Rattle.log.specs.Bytes.{acts, actionsOf, actionAt};
 ghost use Rattle.log.specs.Refusing.{inRule, declared, undeclared, refusing};
 use card::Finding;
 use room::Action;
@@ -13,25 +13,24 @@ pub const ACTION_BYTES: usize = 2;
 
 const MOST_BYTES: usize = 256;
 
-// A byte as a number.
-fn wide(byte: u8) -> u32
-    ensures { λ r. ⌜ r ≡ byte ⌝ }
+// An action by its two bytes: lifeline times 2, plus 0 for emission or 1 for reception; then the message.
+pub fn action_of(first: u8, second: u8) -> Action
+    ensures { λ r. ⌜ actionOf r ≡ acts first second ⌝ }
 {
-    byte as u32
+    Action {
+        lifeline: parts::wide(first / 2),
+        receives: first % 2 == 1,
+        message: parts::wide(second),
+    }
 }
 
-// Action i: lifeline times 2, plus 0 for emission or 1 for reception; then the message.
+// Action i of the log.
 pub fn action_at(log: &[u8], i: usize) -> Action
     requires { ⌜ i < actionsOf (now log) ⌝ }
     ensures { λ r. ⌜ actionOf r ≡ actionAt (now (log .entry)) i ⌝ }
 {
     let at = i * ACTION_BYTES;
-    let first = wide(log[at]);
-    Action {
-        lifeline: first / 2,
-        receives: first % 2 == 1,
-        message: wide(log[at + 1]),
-    }
+    action_of(log[at], log[at + 1])
 }
 
 // Whether the length is in rule: even, and at most 256 bytes.

@@ -10,7 +10,7 @@ use node::Node;
 const TRAILER: usize = 6;
 
 // A byte as a number.
-fn wide(byte: u8) -> u32
+pub fn wide(byte: u8) -> u32
     ensures { λ r. ⌜ r ≡ byte ⌝ }
 {
     byte as u32

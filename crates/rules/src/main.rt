@@ -49,10 +49,6 @@ fn write_action(lifeline: u32, receives: bool, message: u32) {
     io::print_decimal(1, message as u64);
 }
 
-fn wide(byte: u8) -> u32 {
-    byte as u32
-}
-
 fn indent() {
     say(b"    ");
 }
@@ -62,17 +58,6 @@ fn write_question(action: Action) {
     say(b"  ");
     write_action(action.lifeline, action.receives, action.message);
     say(b"\n");
-}
-
-// An action by its two bytes in a log.
-fn action_of(first: u8, second: u8) -> Action {
-    let lifeline = wide(first) / 2;
-    let receives = first % 2 == 1;
-    Action {
-        lifeline: lifeline,
-        receives: receives,
-        message: wide(second),
-    }
 }
 
 // The chart at a place.
@@ -156,10 +141,10 @@ fn walk(room: &mut [u32], root: Root, steps: &[u8])
     let mut used = root.used;
     let mut i = 0;
     while i + 3 <= steps.len() {
-        let action = action_of(steps[i], steps[i + 1]);
+        let action = log::action_of(steps[i], steps[i + 1]);
         write_question(action);
         write_follow_ups(room, place, action, used);
-        let answer = follow::execute(room, place, action, wide(steps[i + 2]), used);
+        let answer = follow::execute(room, place, action, parts::wide(steps[i + 2]), used);
         let Executed::FollowUp(x) = answer else {
             return;
         };
