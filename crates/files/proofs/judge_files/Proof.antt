@@ -52,7 +52,8 @@ part-judge-end c =
       arith,
       rw
           (c .before .before .before .before .before .before .before .before .before .chart-read .given .1) at
-          (c .before .before .before .before .before .before .before .before .before .before .before .before .before .read .ensures),
+          (c .before .before .before .before .before .before .before .before .before .before .before .before .before
+          .read .ensures),
     )
 
 sub-judge-2 : tie.Need-sub-judge-2
@@ -74,18 +75,24 @@ judge-requires c κs = tt
 
 same-length-4 : tie.Need-same-length-4
 same-length-4 c =
-    c .before .before .before .before .before .before .before .before .before .before .before .before .before .before .before .before .before .before .before .before .read .kept .1 .0
+    c .before .before .before .before .before .before .before .before .before .before .before .before .before .before
+    .before .before .before .before .before .before .read .kept .1 .0
 
 same-length-5 : tie.Need-same-length-5
 same-length-5 c =
-    c .before .before .before .before .before .before .before .before .before .before .before .before .before .read2 .kept .1 .0
+    c .before .before .before .before .before .before .before .before .before .before .before .before .before .read2
+    .kept .1 .0
 
 same-length-6 : tie.Need-same-length-6
 same-length-6 c = c .before .before .judge .kept .1 .1 .1 .0
 
 returns-3 : tie.Need-returns-3
 returns-3 c =
-    (c .before .before .before .before .before .before .before .before .before .before .before .before .before .before .before .before .chart-read .given .0 .0 - 0, c .before .before .before .before .before .before .before .before .before .log-read .given .0 .0 - 0, c .before .before .judge .ensures)
+    let card =
+    c .before .before .before .before .before .before .before .before .before .before .before .before .before .before
+    .before .before .chart-read .given .0 .0 in
+    let log = c .before .before .before .before .before .before .before .before .before .log-read .given .0 .0 in
+    (card - 0, log - 0, c .before .before .judge .ensures)
 
 pub judge-files-spec : {M : Type 1} → statement M
 judge-files-spec =

@@ -27,7 +27,8 @@ still-long c =
 -- No more was read than there was room for.
 within : (c : tie.After-count Inv-loop μ-loop)
     → c .count .result ≤ length
-    (c .before .before .before .before .before .before .before .before .before .before .before .before .args .bytes .now) - c .before .before .before .before .before .before .before .before .before .loop .end
+    (c .before .before .before .before .before .before .before .before .before .before .before .before .args .bytes
+    .now) - c .before .before .before .before .before .before .before .before .before .loop .end
 within c =
     let s =
     c .before .before .before .before .before .before .before .before .before .before .before .before .args .bytes .now

@@ -47,7 +47,8 @@ cast-tell : tie.Need-cast-tell
 cast-tell c =
     omega (
       arith,
-      c .before .before .before .before .before .before .before .before .before .before .before .before .before .before .pre .1,
+      c .before .before .before .before .before .before .before .before .before .before .before .before .before .before
+          .pre .1,
     )
 
 tell-requires : tie.Need-tell-requires
@@ -61,7 +62,8 @@ same-length-2 c =
 returns-2 : tie.Need-returns-2
 returns-2 c =
     let s =
-    c .before .before .before .before .before .before .before .before .before .before .before .before .before .before .before in
+    c .before .before .before .before .before .before .before .before .before .before .before .before .before .before
+    .before in
     c .tell .ensures
     ∙ ap judgedOf
     (search-answers (s .args .card .now) (s .args .log .now) (s .args .room .now) (s .args .allowance) (s .pre .0)

@@ -106,7 +106,8 @@ same-length c = search needs
 returns-3 : tie.Need-returns-3
 returns-3 c =
     let s =
-    c .before .before .before .before .before .before .before .before .before .before .before .before .before .before .before .args in
+    c .before .before .before .before .before .before .before .before .before .before .before .before .before .before
+    .before .args in
     let fine = sym (log-found (c .before .before .before .before .before .before .before)) ∙
     c .before .before .before .before .before .enum-told .given .1 in
     let sound = c .before .before .judge-sound in

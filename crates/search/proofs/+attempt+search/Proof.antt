@@ -273,7 +273,8 @@ module _ (t : ℕ) where
   search-same-length-3 c =
       c .before .before .before .attempt .kept .1 .0 ∙
       c .before .before .before .before .before .before .before .before .before .before .execute .kept .0 ∙
-      c .before .before .before .before .before .before .before .before .before .before .before .before .loop .inv .kept .long
+      c .before .before .before .before .before .before .before .before .before .before .before .before .loop .inv .kept
+      .long
 
   search-returns-3 : search-lts.Need-returns-3 search-claims search-at search′.Post search-Inv-loop search-μ-loop
   search-returns-3 c =
@@ -291,7 +292,8 @@ module _ (t : ℕ) where
   search-add-larger c =
       let f = c .before in
       let s =
-      f .before .before .before .before .before .before .before .before .before .before .before .before .before .before .before .before .before .before .before in
+      f .before .before .before .before .before .before .before .before .before .before .before .before .before .before
+      .before .before .before .before .before in
       let log = s .args .log .now in
       let u = turn
       (f .before .before .before .before .before .before .before .before .before .before .before .before .before) in
@@ -314,8 +316,10 @@ module _ (t : ℕ) where
       omega (
         arith,
         failing f .left,
-        c .before .before .before .before .before .before .before .before .before .before .before .before .before .before .before .loop .inv .taken,
-        c .before .before .before .before .before .before .before .before .before .before .before .before .before .before .before .before .before .before .before .before .before .good,
+        c .before .before .before .before .before .before .before .before .before .before .before .before .before
+            .before .before .loop .inv .taken,
+        c .before .before .before .before .before .before .before .before .before .before .before .before .before
+            .before .before .before .before .before .before .before .before .good,
       )
 
   search-loop-less : search-lts.Need-loop-less search-claims search-at search′.Post search-Inv-loop search-μ-loop
@@ -325,7 +329,8 @@ module _ (t : ℕ) where
         arith,
         choice-left (turn
             (f .before .before .before .before .before .before .before .before .before .before .before .before .before))
-            (f .before .before .before .before .before .before .before .before .before .before .before .execute .last .0) (f .before .before .before .before .before .before .before .answer .given .0 .0) (made f),
+            (f .before .before .before .before .before .before .before .before .before .before .before .execute .last
+            .0) (f .before .before .before .before .before .before .before .answer .given .0 .0) (made f),
       )
 
   search-loop-again : search-lts.Need-loop-again search-claims search-at search′.Post search-Inv-loop search-μ-loop
