@@ -4,14 +4,15 @@
 use Prim.Native.Nat.{ℕ, _≤_, _<_}
 use mathlib.Core.Bool.{true, false}
 use mathlib.Core.List.{List}
-use mathlib.Core.Path.{_≡_}
+use mathlib.Core.Logic.{_≢_}
+use mathlib.Core.Path.{_≡_, refl}
 use borrow.Author.Tests.{le-leb, lt-leb}
 use Rattle.card.specs.declared.Finding.{Finding}
 use Rattle.card.specs.declared.Finding.the-variants.{Fine, Refused}
 use Rattle.card.specs.Parts.{lifelinesOf, messagesOf, nodesOf}
 use Rattle.card.specs.Figures.{depthOf}
 use Rattle.card.specs.Findings.{framed, backInRule, countsInRange, faulty, misused}
-use Rattle.card.specs.Checking.{checking, findings, first, refusal, soundness}
+use Rattle.card.specs.Checking.{checking, findings, first, answered, refusal, soundness}
 
 -- The rules of the whole card are passed.
 pub record Passed (card : List ℕ) : Type 0 where
@@ -35,6 +36,17 @@ module _ (card : List ℕ) where
       framed card ≡ true → backInRule card ≡ true → countsInRange card ≡ false → checking card ≡ refusal 3 0
   unfolding checking
   answer-three h₁ h₂ h₃ = rw (h₁, h₂, h₃)
+
+  -- A card that is refused was found so.
+  pub refused-so-found :
+      checking card .number ≢ 0 → first (findings card) ≡ Refused (checking card .number) (checking card .place)
+  unfolding checking
+  refused-so-found h = by (first (findings card)) h
+    where
+      by : (f : Finding) → answered f (soundness (nodesOf card)) .number ≢ 0
+          → f ≡ Refused (answered f (soundness (nodesOf card)) .number) (answered f (soundness (nodesOf card)) .place)
+      by Fine h = absurd (h refl)
+      by (Refused number place) h = refl
 
   module _ (p : Passed card) where
     pub answer-four : (number place : ℕ) → faults ≡ Refused number place → checking card ≡ refusal number place

@@ -47,7 +47,13 @@ module _ (fault : ℕ → ℕ) where
       last (yes same) before = rw (← same, h, finding-some (fault i) i e)
       last (no other) before = rw (before (omega arith))
 
-  -- Fine to the end: no node has a fault.
+  -- No node has a fault: fine to the end,
+  pub none→fine : (n : ℕ) → ((i : ℕ) → i < n → fault i ≡ 0) → lowest fault n ≡ Fine
+  none→fine zero none = refl
+  none→fine (suc n) none =
+      rw (none→fine n (λ i h. none i (omega arith)), finding-none (fault n) n (none n (omega arith)))
+
+  -- and fine to the end only then.
   pub fine→none : (n : ℕ) → lowest fault n ≡ Fine → (i : ℕ) → i < n → fault i ≡ 0
   fine→none zero h i l = absurd (omega arith)
   fine→none (suc n) h i l =

@@ -11,7 +11,7 @@ use Rattle.card.specs.declared.Finding.the-variants.{Fine, Refused}
 use Rattle.card.specs.Findings.{lowest}
 use Rattle.card.specs.Table.{Lowest}
 use Rattle.card.proofs.Decided.{Decided, if-not, if-so}
-use Rattle.card.proofs.Lowest.{finding-none, finding-some, found-here}
+use Rattle.card.proofs.Lowest.{finding-none, finding-some, found-here, none→fine}
 
 module _ (number : ℕ) (real : number ≢ 0) (ok : ℕ → Bool) (At : ℕ → Type 0) where
   -- The fault of a node: its number unless the test passes.
@@ -25,19 +25,16 @@ module _ (number : ℕ) (real : number ≢ 0) (ok : ℕ → Bool) (At : ℕ → 
   one-here i e = rw e
 
   -- No node has it.
-  pub none→fine : (n : ℕ) → ((i : ℕ) → i < n → Decided (ok i) (At i)) → ((i : ℕ) → i < n → ¬ At i)
+  pub no-fault→fine : (n : ℕ) → ((i : ℕ) → i < n → Decided (ok i) (At i)) → ((i : ℕ) → i < n → ¬ At i)
       → lowest fault n ≡ Fine
-  none→fine zero d none = refl
-  none→fine (suc n) d none =
-      let here : fault n ≡ 0 = none-here n (if-not (d n (omega arith)) (none n (omega arith))) in
-      rw (none→fine n (λ i h. d i (omega arith)) (λ i h. none i (omega arith)), finding-none (fault n) n here)
+  no-fault→fine n d none = none→fine fault n (λ i h. none-here i (if-not (d i h) (none i h)))
 
   -- The lowest node that has it.
   pub lowest→refused :
       (n p : ℕ) → ((i : ℕ) → i < n → Decided (ok i) (At i)) → Lowest At n p → lowest fault n ≡ Refused number p
   lowest→refused n p d l =
       let below : (i : ℕ) → i < p → i < n = λ i h. omega (arith, l .inside) in
-      let before : lowest fault p ≡ Fine = none→fine p (λ i h. d i (below i h)) (l .none-lower) in
+      let before : lowest fault p ≡ Fine = no-fault→fine p (λ i h. d i (below i h)) (l .none-lower) in
       let here : fault p ≡ number = one-here p (if-so (d p (l .inside)) (l .here)) in
       rw here at (found-here fault p n (l .inside) before (λ z. real (rw here at z)))
 

@@ -56,12 +56,15 @@ module _ (card : List ℕ) where
   pub every-card-gets-a-number : checking card .number ≤ 6
   every-card-gets-a-number = told-at-most-six card (answer→told card)
 
-  -- and no second answer, nor a second note, meets the contract.
+  -- and no second answer, nor a second note or length of it, meets the contract.
   pub no-second-answer : {r s : Checked} → r ≡ checking card → s ≡ checking card → r ≡ s
   no-second-answer e f = e ∙ sym f
 
   pub no-second-note : {r s : List ℕ} → r ≡ noteOf card → s ≡ noteOf card → r ≡ s
   no-second-note e f = e ∙ sym f
+
+  pub no-second-length : {r s : ℕ} → r ≡ length (noteOf card) → s ≡ length (noteOf card) → r ≡ s
+  no-second-length e f = e ∙ sym f
 
   -- "No. | Given when | Place", 1 to 6, and 0 for a sound card: exactly as 01's table tells.
   pub given-exactly-as-the-table-tells :

@@ -29,7 +29,7 @@ use Rattle.card.proofs.Relied.{InRule, back→, few-lifelines, faultles
 use Rattle.card.proofs.Decided.{Decided, if-not, if-so}
 use Rattle.card.proofs.Deciding.{at-least-six, framed-decided, back-decided, counts-decided}
 use Rattle.card.proofs.Deciding.{same-count, fault-decided, misuse-decided}
-use Rattle.card.proofs.LowestAt.{Looked, look, none→fine, lowest→refused}
+use Rattle.card.proofs.LowestAt.{Looked, look, no-fault→fine, lowest→refused}
 use Rattle.card.proofs.LowestAt.Looked.{nowhere, somewhere}
 use Rattle.card.proofs.Answers.{Passed, answer-one, answer-two, answer-three}
 use Rattle.card.proofs.Answers.{nothing-found, answer-four, answer-five, answer-six}
@@ -87,12 +87,12 @@ module _ (card : List ℕ) where
   pub no-fault : (o : Ordered card) → faulty (lifelinesOf card) (messagesOf card) nodes ≡ Fine
   no-fault o =
       let t = o .trailed in
-      none→fine 4 four-is-real (orderly t) (FaultAt card) (countOf nodes) (each-order-decided t)
+      no-fault→fine 4 four-is-real (orderly t) (FaultAt card) (countOf nodes) (each-order-decided t)
       (λ i h. o .nodes i (omega (arith, counted-alike t)))
 
   pub no-misuse : (t : Tree card) → misused nodes ≡ Fine
   no-misuse t =
-      none→fine 5 five-is-real once (MisuseAt card) (countOf nodes - 1) (each-use-decided (countOf nodes - 1))
+      no-fault→fine 5 five-is-real once (MisuseAt card) (countOf nodes - 1) (each-use-decided (countOf nodes - 1))
       (λ j h. t .once j (omega (arith, counted-alike (t .ordered .trailed))))
 
   -- Nothing refuses a sound card.

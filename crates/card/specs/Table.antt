@@ -1,6 +1,6 @@
 -- Numbers 1 to 6 of the table in 01, "Verdicts and numbers given", a second time: as conditions on the bytes, in the
--- table's words and order, with nothing shared with `Checking` but the card's row of nodes and its chart. proofs/Telling.antt shows
--- that both say the same.
+-- table's words and order, with nothing shared with `Checking` but the card's row of nodes and its chart.
+-- proofs/Telling.antt shows that both say the same.
 -- Assumes nothing.
 use Prim.Native.Nat.{ℕ, _+_, _-_, _*_, _/_, _%_, _<_, _≤_}
 use mathlib.Core.List.{List}

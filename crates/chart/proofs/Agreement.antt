@@ -12,7 +12,20 @@ use lib.Dec.{T}
 use Rattle.chart.specs.Action.{Action, Log, Avoids, Clear}
 use Rattle.chart.specs.Chart.{Order, strict, seq, par, Loop, each, head, Chart, empty, act, alt, pair, loop}
 use Rattle.chart.specs.Traces.{Traces, Only, only, Joined, joined}
-use Rattle.chart.specs.Published.{Woven, left-empty, right-empty, first-left, first-right, Conflict, scheduling, power, closure, restricted, Published, weakSequencing}
+use Rattle.chart.specs.Published.{
+  Woven,
+  left-empty,
+  right-empty,
+  first-left,
+  first-right,
+  Conflict,
+  scheduling,
+  power,
+  closure,
+  restricted,
+  Published,
+  weakSequencing,
+}
 use Rattle.chart.specs.Member.{May, Deal, done, left, right, Round, dealt, headed, Star, none, more, Member}
 use Rattle.chart.specs.Executing.{chartOf, evades, prune}
 use Rattle.chart.proofs.Deals.{deal-all-left, deal-all-right, deal-appended, deal-strict-is-appended}
@@ -73,7 +86,8 @@ scheduling← par s u t x = woven← par (λ r a. Unit) (λ r a m. m) x
 abbrev pub Same : Traces → Traces → Type 0
 Same T M = (t : Log) → T t ↔ M t
 
-pair-agrees : (o : Order) (T U L M : Traces) → Same T L → Same U M → Same (Joined (scheduling o) T U) (Joined (Deal o) L M)
+pair-agrees : (o : Order) (T U L M : Traces) → Same T L → Same U M
+    → Same (Joined (scheduling o) T U) (Joined (Deal o) L M)
 pair-agrees o T U L M f g t = (forth, back)
   where
     forth : Joined (scheduling o) T U t → Joined (Deal o) L M t
@@ -118,7 +132,8 @@ head-agrees T M f = closure-agrees head (restricted weakSequencing) T M forth ba
         → Joined weakSequencing (Only s) U t → Star head M (a ∷ t)
     begun U h a s t m (joined _ u only n x) = more (f (a ∷ s) .0 m) (h u n) (headed (scheduling→ seq s u t x))
 
-    forth : (U : Traces) → ((u : Log) → U u → Star head M u) → (t : Log) → restricted weakSequencing T U t → Star head M t
+    forth : (U : Traces) → ((u : Log) → U u → Star head M u) → (t : Log) → restricted weakSequencing T U t
+        → Star head M t
     forth U h [] r = none
     forth U h (a ∷ t) r = let (s, m, j) = r .1 a t refl in begun U h a s t m j
 
@@ -148,7 +163,8 @@ published-iff-member (loop head b) t = head-agrees (Published b) (Member b) (pub
 -- ---- evading and pruning, of the published sets
 
 -- (000, Lemma 5)
-pub evades-iff-some-published-log-avoids : (c : Chart) (d : ℕ) → T (evades c d) ↔ ((t : Log) × Published c t × Avoids d t)
+pub evades-iff-some-published-log-avoids : (c : Chart) (d : ℕ) → T (evades c d)
+    ↔ ((t : Log) × Published c t × Avoids d t)
 evades-iff-some-published-log-avoids c d =
     Iff·trans (evades-iff-some-log-avoids c d) (
       λ w. (w .0, published-iff-member c (w .0) .1 (w .1), w .2),

@@ -52,7 +52,8 @@ some-if← false xs h w = absurd h
 
 -- ---- composed with some of a list
 
-pub joined-implies : {op : Operator} {L L′ M M′ : Traces} {t : Log} → ((s : Log) → L s → L′ s) → ((u : Log) → M u → M′ u)
+pub joined-implies : {op : Operator} {L L′ M M′ : Traces} {t : Log} → ((s : Log) → L s → L′ s)
+    → ((u : Log) → M u → M′ u)
     → Joined op L M t → Joined op L′ M′ t
 joined-implies f g (joined s u m n x) = joined s u (f s m) (g u n) x
 
@@ -60,7 +61,8 @@ joined-implies f g (joined s u m n x) = joined s u (f s m) (g u n) x
 abbrev pub Union : (Made → Traces) → List Made → Traces
 Union P xs t = Some (λ x. P x t) xs
 
-pub union-left→ : {op : Operator} (P : Made → Traces) {M : Traces} {xs : List Made} {t : Log} → Joined op (Union P xs) M t
+pub union-left→ : {op : Operator} (P : Made → Traces) {M : Traces} {xs : List Made} {t : Log}
+    → Joined op (Union P xs) M t
     → Union (λ x. Joined op (P x) M) xs t
 union-left→ P (joined s u w n x) = some-implies (λ y p. joined s u p n x) w
 
@@ -69,7 +71,8 @@ pub union-left← : {op : Operator} (P : Made → Traces) {M : Traces} {xs : Lis
 union-left← P (here (joined s u p n x)) = joined s u (here p) n x
 union-left← P (there w) = joined-implies (λ s v. there v) (λ u n. n) (union-left← P w)
 
-pub union-right→ : {op : Operator} {L : Traces} (P : Made → Traces) {xs : List Made} {t : Log} → Joined op L (Union P xs) t
+pub union-right→ : {op : Operator} {L : Traces} (P : Made → Traces) {xs : List Made} {t : Log}
+    → Joined op L (Union P xs) t
     → Union (λ x. Joined op L (P x)) xs t
 union-right→ P (joined s u m w x) = some-implies (λ y p. joined s u m p x) w
 

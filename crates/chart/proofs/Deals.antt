@@ -54,14 +54,16 @@ deal-every← P (left d) hs hu = (hs .0, deal-every← P d (hs .1) hu)
 deal-every← P (right m d) hs hu = (hu .0, deal-every← P d hs (hu .1))
 
 -- s before (u before v) is (s before u) before v, in weak deals
-pub deal-regroups-left : {s w t u v : Log} → Deal seq s w t → Deal seq u v w → (r : Log) × Deal seq s u r × Deal seq r v t
+pub deal-regroups-left : {s w t u v : Log} → Deal seq s w t → Deal seq u v w
+    → (r : Log) × Deal seq s u r × Deal seq r v t
 deal-regroups-left done done = ([], done, done)
 deal-regroups-left (left {a = a} d) e = let (r, x, y) = deal-regroups-left d e in (a ∷ r, left x, left y)
 deal-regroups-left (right {a = a} m d) (left e) = let (r, x, y) = deal-regroups-left d e in (a ∷ r, right m x, left y)
 deal-regroups-left (right {a = a} m d) (right n e) =
     let (r, x, y) = deal-regroups-left d e in (r, x, right (deal-every← _ x m n) y)
 
-pub deal-regroups-right : {s u r v t : Log} → Deal seq r v t → Deal seq s u r → (w : Log) × Deal seq u v w × Deal seq s w t
+pub deal-regroups-right : {s u r v t : Log} → Deal seq r v t → Deal seq s u r
+    → (w : Log) × Deal seq u v w × Deal seq s w t
 deal-regroups-right done done = ([], done, done)
 deal-regroups-right (left {a = a} d) (left e) = let (w, x, y) = deal-regroups-right d e in (w, x, left y)
 deal-regroups-right (left {a = a} d) (right m e) = let (w, x, y) = deal-regroups-right d e in (a ∷ w, left x, right m y)

@@ -23,8 +23,28 @@ use Rattle.chart.specs.Lending.{Answer, halted, answer}
 use Rattle.chart.specs.Reaching.{Reaches, Verdict, Wants, Exceeds}
 use Rattle.chart.proofs.Agreement.{evades-iff-some-published-log-avoids, prune-keeps-published}
 use Rattle.chart.proofs.Extending.{answer-extends}
-use Rattle.chart.proofs.Numbers.{reached-answer, of-verdict, spent-answer, too-large-answer, exceeded-answer, verdict-iff-reaches, nine-iff-wants, ten-iff-exceeds, no-other-number}
-use Rattle.chart.proofs.Judging.{accepted-iff, short-iff, deviates-iff, accepted-place, short-place, deviates-place, verdict-figures, deviates-begins-none, search-decides-the-published-set}
+use Rattle.chart.proofs.Numbers.{
+  reached-answer,
+  of-verdict,
+  spent-answer,
+  too-large-answer,
+  exceeded-answer,
+  verdict-iff-reaches,
+  nine-iff-wants,
+  ten-iff-exceeds,
+  no-other-number,
+}
+use Rattle.chart.proofs.Judging.{
+  accepted-iff,
+  short-iff,
+  deviates-iff,
+  accepted-place,
+  short-place,
+  deviates-place,
+  verdict-figures,
+  deviates-begins-none,
+  search-decides-the-published-set,
+}
 
 module _ (c : Chart) (t : Log) (allowance room : ℕ) where
   -- the answer
@@ -59,7 +79,8 @@ module _ (c : Chart) (t : Log) (allowance room : ℕ) where
   deviates-at-the-longest-opening e =
       of-verdict c t allowance room (λ a. a .number ≡ 22 → Longest (Published c) t (a .place))
       (verdict-iff-reaches c t allowance room .0 (inr (inr e)))
-      (deviates-place (Published c) t (searched c t) (stepsOf c t) (placesOf c t) (search-decides-the-published-set c t)) e
+      (deviates-place (Published c) t (searched c t) (stepsOf c t) (placesOf c t)
+      (search-decides-the-published-set c t)) e
 
   -- 01, Verdicts and numbers given: 20 and 21 give the log's length.
   pub accepted-gives-the-length : given .number ≡ 20 → given .place ≡ length t
@@ -84,7 +105,8 @@ module _ (c : Chart) (t : Log) (allowance room : ℕ) where
   -- and is then the same whatever more is lent."
   pub same-whatever-more-is-lent : (more moreRoom : ℕ) → Reaches c t allowance room → Reaches c t more moreRoom
       → given ≡ answer c t more moreRoom
-  same-whatever-more-is-lent more moreRoom r s = reached-answer c t allowance room r ∙ sym (reached-answer c t more moreRoom s)
+  same-whatever-more-is-lent more moreRoom r s =
+      reached-answer c t allowance room r ∙ sym (reached-answer c t more moreRoom s)
 
   -- The verdict has these two figures.
   pub verdict-has-the-figures : Reaches c t allowance room
@@ -107,7 +129,8 @@ module _ (c : Chart) (t : Log) (allowance room : ℕ) where
   nine-has-the-figures-reached e = spent-answer c t allowance room (nine-iff-wants c t allowance room .0 e)
 
   -- 01: 10 exactly if "the chart, or the next whole follow-up, exceeds the usable room", the allowance not spent;
-  pub ten-exactly-if-the-room-is-exceeded : (given .number ≡ 10) ↔ ((room < size c) ⊎ ((k : ℕ) × Exceeds c t allowance room k))
+  pub ten-exactly-if-the-room-is-exceeded : (given .number ≡ 10)
+      ↔ ((room < size c) ⊎ ((k : ℕ) × Exceeds c t allowance room k))
   ten-exactly-if-the-room-is-exceeded = ten-iff-exceeds c t allowance room
 
   -- no figures if it is the chart, else the figures reached so far.

@@ -6,7 +6,17 @@
 -- action more than the longest in any choice, and where there is no choice it is empty, since every chart has a log.
 -- Assumes nothing.
 use Prim.Native.Nat.{ℕ, zero, suc, _+_, _≤_, max, zero-le, suc-le-suc}
-use native.Mathlib.Nat.{le-trans, le-of-suc-le-suc, le-max-left, le-max-right, max-le, max-eq-left, max-eq-right, le-of-lt, lt-of-not-le}
+use native.Mathlib.Nat.{
+  le-trans,
+  le-of-suc-le-suc,
+  le-max-left,
+  le-max-right,
+  max-le,
+  max-eq-left,
+  max-eq-right,
+  le-of-lt,
+  lt-of-not-le,
+}
 use native.Mathlib.Decide.{decLe}
 use mathlib.Core.Bool.{Bool, true, false, cond}
 use mathlib.Core.List.{List, [], _∷_, _++_}
@@ -47,7 +57,8 @@ tries-accepts : {P : Made → Type 0} (go : Chart → ℕ → Outcome) (used : �
 unfolding tries
 tries-accepts go used [] f = (λ h. absurd h, elim [ ])
 tries-accepts go used (x ∷ xs) f =
-    step-accepts (used + costOf x) x xs (go (chartOf x) (used + costOf x)) (tries go used xs) (f x) (tries-accepts go used xs f)
+    step-accepts (used + costOf x) x xs (go (chartOf x) (used + costOf x)) (tries go used xs) (f x)
+    (tries-accepts go used xs f)
 
 at-end-accepts : (p : Bool) → Accepts (cond p (accepted []) (refused 0 [])) ↔ T p
 at-end-accepts true = (λ h. tt, λ h. tt)
@@ -59,7 +70,8 @@ unfolding explore
 explore-accepts-iff-member [] c used =
     let (f, g) = at-end-accepts (terminates c) in (λ h. terminates→ c (f h), λ m. g (terminates← c m))
 explore-accepts-iff-member (a ∷ t) c used =
-    let (f, g) = tries-accepts (λ x n. explore t x n) used (follows c a) (λ x. explore-accepts-iff-member t (chartOf x) (used + costOf x)) in
+    let (f, g) = tries-accepts (λ x n. explore t x n) used (follows c a)
+    (λ x. explore-accepts-iff-member t (chartOf x) (used + costOf x)) in
     (λ h. follows-iff c a t .1 (f h), λ m. g (follows-iff c a t .0 m))
 
 -- ---- the deepest opening
@@ -112,7 +124,8 @@ tries-deepest : (go : Chart → ℕ → Outcome) (used : ℕ) (xs : List Made) (
 unfolding tries
 tries-deepest go used [] t f = record { within = zero-le; reached = nowhere; deepest = λ m h. elim [ ] }
 tries-deepest go used (x ∷ xs) t f =
-    step-deepest (used + costOf x) x xs t (go (chartOf x) (used + costOf x)) (tries go used xs) (f x) (tries-deepest go used xs t f)
+    step-deepest (used + costOf x) x xs t (go (chartOf x) (used + costOf x)) (tries go used xs) (f x)
+    (tries-deepest go used xs t f)
 
 -- The chart's log that begins with a and an opening of t.
 begins→ : (c : Chart) (a : Action) (s : Log) → Begins (Member c) (a ∷ s)
@@ -145,9 +158,11 @@ at-end-longest c true = tt
 at-end-longest c false = record { within = zero-le; opens = every-chart-has-a-log c; longest = λ m h b. h }
 
 -- Where the search refuses, its deepest opening is the longest with which some log of the chart begins.
-pub explore-refuses-at-the-longest : (t : Log) (c : Chart) (used : ℕ) → Refuses (Longest (Member c) t) (explore t c used)
+pub explore-refuses-at-the-longest : (t : Log) (c : Chart) (used : ℕ)
+    → Refuses (Longest (Member c) t) (explore t c used)
 unfolding explore
 explore-refuses-at-the-longest [] c used = at-end-longest c (terminates c)
 explore-refuses-at-the-longest (a ∷ t) c used =
     deepest-is-longest c a t (explore (a ∷ t) c used)
-    (tries-deepest (λ x n. explore t x n) used (follows c a) t (λ x. explore-refuses-at-the-longest t (chartOf x) (used + costOf x)))
+    (tries-deepest (λ x n. explore t x n) used (follows c a) t
+    (λ x. explore-refuses-at-the-longest t (chartOf x) (used + costOf x)))

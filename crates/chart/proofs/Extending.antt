@@ -25,8 +25,10 @@ Deviates n (refused deepest run) = deepest < n
 
 step-deviates : (n m : ℕ) (first rest : Outcome) → Deviates (suc n) (step m first rest)
     → Deviates n first × Deviates (suc n) rest
-step-deviates n m (refused d run) (refused e more) h =
-    (le-of-suc-le-suc (le-trans (suc-le-suc (le-max-left (suc d) e)) h), le-trans (suc-le-suc (le-max-right (suc d) e)) h)
+step-deviates n m (refused d run) (refused e more) h = (
+  le-of-suc-le-suc (le-trans (suc-le-suc (le-max-left (suc d) e)) h),
+  le-trans (suc-le-suc (le-max-right (suc d) e)) h,
+)
 step-deviates n m (accepted run) rest h = absurd h
 step-deviates n m (refused d run) (accepted more) h = absurd h
 
@@ -49,7 +51,8 @@ explore-extends [] u c used h = absurd (at-end-deviates-never (terminates c) h)
     at-end-deviates-never true h = h
     at-end-deviates-never false h = not-suc-le-zero h
 explore-extends (a ∷ t) u c used h =
-    tries-extend (λ x n. explore t x n) (λ x n. explore (t ++ u) x n) (length t) used (follows c a) (explore-extends t u) h
+    tries-extend (λ x n. explore t x n) (λ x n. explore (t ++ u) x n) (length t) used (follows c a)
+    (explore-extends t u) h
 
 -- ---- the answer
 
@@ -58,7 +61,8 @@ unaccepted-extends : (d long more : ℕ) → d < long → long ≤ more → unac
 unaccepted-extends d long more h g =
     ap unaccepted (passes (ltb d more) (lt→ltb d more (le-trans h g)) ∙ sym (passes (ltb d long) (lt→ltb d long h)))
 
-told-extends : (d long more : ℕ) → d < long → long ≤ more → (s p : ℕ) → told more (failed d s p) ≡ told long (failed d s p)
+told-extends : (d long more : ℕ) → d < long → long ≤ more → (s p : ℕ) → told more (failed d s p)
+    ≡ told long (failed d s p)
 told-extends d long more h g s p =
     ap (λ (n : ℕ). record { number = n; place = d; steps = s; places = p }) (unaccepted-extends d long more h g)
 
@@ -91,6 +95,7 @@ answer-extends c t u allowance room h =
     let longer = subst (λ (n : ℕ). length t ≤ n) (sym (length-append t u)) (le-add-right (length t) (length u)) in
     let fits : Answer → Answer = cond (ltb room (size c)) (halted 10 0 0) in
     answer-is-spent c (t ++ u) allowance room
-    ∙ ap (λ (o : Outcome). fits (told (length (t ++ u)) (spent allowance room o 0 (size c)))) (explore-extends t u c (size c) h)
+    ∙ ap (λ (o : Outcome). fits (told (length (t ++ u)) (spent allowance room o 0 (size c))))
+    (explore-extends t u c (size c) h)
     ∙ ap fits (spent-extends allowance room (length t) (length (t ++ u)) (searched c t) h longer 0 (size c))
     ∙ sym (answer-is-spent c t allowance room)

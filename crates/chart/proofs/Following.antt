@@ -15,13 +15,51 @@ use Rattle.chart.specs.Action.{Action, Log, same, Clear}
 use Rattle.chart.specs.Chart.{Order, strict, seq, par, Loop, each, head, Chart, empty, act, alt, pair, loop}
 use Rattle.chart.specs.Traces.{Only, only, Joined, joined}
 use Rattle.chart.specs.Member.{May, Deal, left, right, Star, Member}
-use Rattle.chart.specs.Executing.{Made, kept, newEmpty, newPair, chartOf, terminates, letsPass, passed, onRight, begun, afterRound, follows}
+use Rattle.chart.specs.Executing.{
+  Made,
+  kept,
+  newEmpty,
+  newPair,
+  chartOf,
+  terminates,
+  letsPass,
+  passed,
+  onRight,
+  begun,
+  afterRound,
+  follows,
+}
 use Rattle.chart.proofs.Tests.{both→, both←}
 use Rattle.chart.proofs.Deals.{deal-all-right, deal-left-is-empty}
 use Rattle.chart.proofs.Evading.{terminates→, terminates←}
 use Rattle.chart.proofs.Pruning.{lets-pass←, passed-keeps}
-use Rattle.chart.proofs.Looping.{Begun, begins, strict-begins, head-begins, parallel-begins, Fronted, weak-begins→, weak-begins←}
-use Rattle.chart.proofs.Choices.{here, some-left, some-right, some-append, some-map→, some-map←, some-if→, some-if←, joined-implies, union-left→, union-left←, union-right→, union-right←, Union, OneOf}
+use Rattle.chart.proofs.Looping.{
+  Begun,
+  begins,
+  strict-begins,
+  head-begins,
+  parallel-begins,
+  Fronted,
+  weak-begins→,
+  weak-begins←,
+}
+use Rattle.chart.proofs.Choices.{
+  here,
+  some-left,
+  some-right,
+  some-append,
+  some-map→,
+  some-map←,
+  some-if→,
+  some-if←,
+  joined-implies,
+  union-left→,
+  union-left←,
+  union-right→,
+  union-right←,
+  Union,
+  OneOf,
+}
 
 -- ---- the same action
 
@@ -37,7 +75,8 @@ beq-refl false = tt
 
 pub same→ : (a b : Action) → T (same a b) → a ≡ b
 same→ a b h =
-    let (g, m) = both→ (eqb (a .line) (b .line) && Bool·beq (a .receives) (b .receives)) (eqb (a .message) (b .message)) h in
+    let (g, m) = both→ (eqb (a .line) (b .line) && Bool·beq (a .receives) (b .receives)) (eqb (a .message) (b .message))
+    h in
     let (l, r) = both→ (eqb (a .line) (b .line)) (Bool·beq (a .receives) (b .receives)) g in
     let el = eqb→eq (a .line) (b .line) l in
     let er = beq→ (a .receives) (b .receives) r in
@@ -47,7 +86,8 @@ same→ a b h =
 pub same-refl : (a : Action) → T (same a a)
 same-refl a =
     both← (eqb (a .line) (a .line) && Bool·beq (a .receives) (a .receives)) (eqb (a .message) (a .message))
-    (both← (eqb (a .line) (a .line)) (Bool·beq (a .receives) (a .receives)) (eqb-refl (a .line)) (beq-refl (a .receives)))
+    (both← (eqb (a .line) (a .line)) (Bool·beq (a .receives) (a .receives)) (eqb-refl (a .line))
+    (beq-refl (a .receives)))
     (eqb-refl (a .message))
 
 -- ---- on the right of a pair
@@ -55,23 +95,27 @@ same-refl a =
 -- what an action on the right asks of the left part, and what it leaves
 on-right→ : (o : Order) (l : Chart) (a : Action) (xs : List Made) {t : Log}
     → Joined (Deal o) (λ s. Member l s × May o s a) (OneOf xs) t → OneOf (onRight o l (a .line) xs) t
-on-right→ strict l a xs (joined s u (m, only) w x) = some-if← (terminates l) xs (terminates← l m) (subst (OneOf xs) (deal-left-is-empty x) w)
+on-right→ strict l a xs (joined s u (m, only) w x) =
+    some-if← (terminates l) xs (terminates← l m) (subst (OneOf xs) (deal-left-is-empty x) w)
 on-right→ seq l a xs {t} (joined s u (m, e) w x) =
     let pass = lets-pass← l (a .line) s m e in
     some-if← (letsPass l (a .line)) (map (newPair seq (passed l (a .line))) xs) pass
     (some-map← (newPair seq (passed l (a .line)))
     (union-right→ (λ y. Member (chartOf y)) (joined s u (passed-keeps l (a .line) pass s .1 (m, e)) w x)))
-on-right→ par l a xs (joined s u (m, e) w x) = some-map← (newPair par (kept l)) (union-right→ (λ y. Member (chartOf y)) (joined s u m w x))
+on-right→ par l a xs (joined s u (m, e) w x) =
+    some-map← (newPair par (kept l)) (union-right→ (λ y. Member (chartOf y)) (joined s u m w x))
 
 on-right← : (o : Order) (l : Chart) (a : Action) (xs : List Made) {t : Log} → OneOf (onRight o l (a .line) xs) t
     → Joined (Deal o) (λ s. Member l s × May o s a) (OneOf xs) t
-on-right← strict l a xs {t} w = let (h, v) = some-if→ (terminates l) xs w in joined [] t (terminates→ l h, only) v (deal-all-right strict t)
+on-right← strict l a xs {t} w =
+    let (h, v) = some-if→ (terminates l) xs w in joined [] t (terminates→ l h, only) v (deal-all-right strict t)
 on-right← seq l a xs w =
     let (h, v) = some-if→ (letsPass l (a .line)) (map (newPair seq (passed l (a .line))) xs) w in
     joined-implies (λ s m. passed-keeps l (a .line) h s .0 m) (λ u n. n)
     (union-right← (λ y. Member (chartOf y)) (some-map→ (newPair seq (passed l (a .line))) xs v))
 on-right← par l a xs w =
-    joined-implies (λ s m. (m, tt)) (λ u n. n) (union-right← (λ y. Member (chartOf y)) (some-map→ (newPair par (kept l)) xs w))
+    joined-implies (λ s m. (m, tt)) (λ u n. n)
+    (union-right← (λ y. Member (chartOf y)) (some-map→ (newPair par (kept l)) xs w))
 
 -- ---- a pair
 
@@ -81,7 +125,8 @@ Follow c a xs = (t : Log) → Member c (a ∷ t) ↔ OneOf xs t
 
 pair-follows : (o : Order) (l r : Chart) (a : Action) (xs ys : List Made) → Follow l a xs → Follow r a ys
     → Follow (pair o l r) a (map (λ x. newPair o x (kept r)) xs ++ onRight o l (a .line) ys)
-pair-follows o l r a xs ys f g t = (forth, λ w. back (some-append (map (λ x. newPair o x (kept r)) xs) (onRight o l (a .line) ys) w))
+pair-follows o l r a xs ys f g t =
+    (forth, λ w. back (some-append (map (λ x. newPair o x (kept r)) xs) (onRight o l (a .line) ys) w))
   where
     forth : Member (pair o l r) (a ∷ t) → OneOf (map (λ x. newPair o x (kept r)) xs ++ onRight o l (a .line) ys) t
     forth (joined _ u m n (left {s = s} x)) =
@@ -96,7 +141,8 @@ pair-follows o l r a xs ys f g t = (forth, λ w. back (some-append (map (λ x. n
     begin-right : Joined (Deal o) (λ s. Member l s × May o s a) (OneOf ys) t → Member (pair o l r) (a ∷ t)
     begin-right (joined s u (m, e) w x) = joined s (a ∷ u) m (g u .1 w) (right e x)
 
-    back : OneOf (map (λ x. newPair o x (kept r)) xs) t ⊎ OneOf (onRight o l (a .line) ys) t → Member (pair o l r) (a ∷ t)
+    back : OneOf (map (λ x. newPair o x (kept r)) xs) t ⊎ OneOf (onRight o l (a .line) ys) t
+        → Member (pair o l r) (a ∷ t)
     back (inl w) = begin-left (union-left← (λ y. Member (chartOf y)) (some-map→ (λ x. newPair o x (kept r)) xs w))
     back (inr w) = begin-right (on-right← o l a ys w)
 
@@ -123,7 +169,8 @@ first-follows k b a xs first f t = (
 -- the weak loop, with what is left of the loop in front
 weak-follows : (b : Chart) (a : Action) (xs : List Made) → Follow b a xs
     → Follow (loop (each seq) b) a (map (afterRound (each seq) b (a .line)) xs)
-weak-follows b a xs f t = (λ m. forth (weak-begins→ (Member b) m), λ w. back (some-map→ (afterRound (each seq) b (a .line)) xs w))
+weak-follows b a xs f t =
+    (λ m. forth (weak-begins→ (Member b) m), λ w. back (some-map→ (afterRound (each seq) b (a .line)) xs w))
   where
     front : (s : Log)
         → Member (chartOf (passed (loop (each seq) b) (a .line))) s ↔ (Star (each seq) (Member b) s × Clear (a .line) s)
@@ -132,12 +179,14 @@ weak-follows b a xs f t = (λ m. forth (weak-begins→ (Member b) m), λ w. back
     forth : Fronted (Member b) a t → OneOf (map (afterRound (each seq) b (a .line)) xs) t
     forth j =
         some-map← (afterRound (each seq) b (a .line))
-        (union-right→ (λ y. Member (chartOf (begun (each seq) b y))) (joined-implies (λ s. front s .1) (begun→ (each seq) b a xs f) j))
+        (union-right→ (λ y. Member (chartOf (begun (each seq) b y)))
+        (joined-implies (λ s. front s .1) (begun→ (each seq) b a xs f) j))
 
     back : Union (λ x. Member (chartOf (afterRound (each seq) b (a .line) x))) xs t → Star (each seq) (Member b) (a ∷ t)
     back w =
         weak-begins← (Member b)
-        (joined-implies (λ s. front s .0) (begun← (each seq) b a xs f) (union-right← (λ y. Member (chartOf (begun (each seq) b y))) w))
+        (joined-implies (λ s. front s .0) (begun← (each seq) b a xs f)
+        (union-right← (λ y. Member (chartOf (begun (each seq) b y))) w))
 
 loop-follows : (k : Loop) (b : Chart) (a : Action) (xs : List Made) → Follow b a xs
     → Follow (loop k b) a (map (afterRound k b (a .line)) xs)
@@ -157,7 +206,8 @@ act-follows b a t = (forth, λ w. let (h, v) = some-if→ (same a b) (newEmpty �
     back : {t : Log} → a ≡ b → OneOf (newEmpty ∷ []) t → Only (b ∷ []) (a ∷ t)
     back e (here only) = subst (λ (c : Action). Only (b ∷ []) (c ∷ [])) (sym e) only
 
-alt-follows : (l r : Chart) (a : Action) (xs ys : List Made) → Follow l a xs → Follow r a ys → Follow (alt l r) a (xs ++ ys)
+alt-follows : (l r : Chart) (a : Action) (xs ys : List Made) → Follow l a xs → Follow r a ys
+    → Follow (alt l r) a (xs ++ ys)
 alt-follows l r a xs ys f g t = (
   ⊎-elim (λ m. some-left ys (f t .0 m)) (λ m. some-right xs (g t .0 m)),
   λ w. ⊎-map (f t .1) (g t .1) (some-append xs ys w),

@@ -4,14 +4,29 @@
 -- Assumes nothing.
 use Prim.Native.Nat.{ℕ, _+_, _*_, max, _<_, _≤_}
 use native.Mathlib.Omega.{arith}
-use mathlib.Core.Bool.{Bool, true, false}
 use mathlib.Core.List.{List, [], _∷_, map}
 use mathlib.Core.Path.{_≡_, subst, sym}
 use lib.ListN.{length, getD}
 use Rattle.chart.specs.Action.{Action, Log, Every, same}
-use Rattle.chart.specs.Chart.{Order, strict, seq, par, Loop, each, head, Chart, empty, act, alt, pair, loop, depth}
+use Rattle.chart.specs.Chart.{
+  Order,
+  strict,
+  seq,
+  par,
+  Loop,
+  each,
+  head,
+  Chart,
+  empty,
+  act,
+  alt,
+  pair,
+  loop,
+  depth,
+}
 use Rattle.chart.specs.Executing.{Made, kept, newEmpty, newPair, chartOf}
-use Rattle.chart.specs.Executing.{terminates, evades, prunedAlt, prunedLoop, prune, onRight, afterRound, follows}
+use Rattle.chart.specs.Executing.{terminates, evades, prune, onRight, afterRound, follows}
+use Rattle.chart.proofs.Shrinking.{Grows, pruned-no-greater}
 use Rattle.chart.proofs.Each.{every-map, every-implies, every-append, every-if, every-at}
 
 -- The depth, with a loop counted as two levels.
@@ -42,30 +57,20 @@ fewer-levels-than-twice-the-depth (loop k b) = omega (arith, fewer-levels-than-t
 abbrev made : Made → ℕ
 made m = levels (chartOf m)
 
-pruned-alt-levels : (p q : Bool) (m n : Made) → made (prunedAlt p q m n) ≤ 1 + max (made m) (made n)
-pruned-alt-levels true true m n = omega arith
-pruned-alt-levels true false m n = omega arith
-pruned-alt-levels false q m n = omega arith
-
-pruned-loop-levels : (p : Bool) (k : Loop) (m : Made) → made (prunedLoop p k m) ≤ 2 + made m
-pruned-loop-levels true k m = omega arith
-pruned-loop-levels false k m = omega arith
+levels-grow : Grows levels
+levels-grow =
+    record {
+      left = λ l r. omega arith;
+      right = λ l r. omega arith;
+      none = λ k b. omega arith;
+      alts = λ l r m n hl hr. omega arith;
+      pairs = λ o l r m n hl hr. omega arith;
+      loops = λ k b m h. omega arith;
+    }
 
 -- Pruning makes no chart deeper.
 pub pruning-makes-no-deeper : (c : Chart) (d : ℕ) → levels (chartOf (prune c d)) ≤ levels c
-unfolding prune
-pruning-makes-no-deeper empty d = omega arith
-pruning-makes-no-deeper (act a) d = omega arith
-pruning-makes-no-deeper (alt l r) d =
-    omega (
-      arith,
-      pruned-alt-levels (evades l d) (evades r d) (prune l d) (prune r d),
-      pruning-makes-no-deeper l d,
-      pruning-makes-no-deeper r d,
-    )
-pruning-makes-no-deeper (pair o l r) d = omega (arith, pruning-makes-no-deeper l d, pruning-makes-no-deeper r d)
-pruning-makes-no-deeper (loop k b) d =
-    omega (arith, pruned-loop-levels (evades b d) k (prune b d), pruning-makes-no-deeper b d)
+pruning-makes-no-deeper = pruned-no-greater levels levels-grow
 
 -- At most n levels, and each of the follow-ups so.
 abbrev AtMost : ℕ → Made → Type 0
@@ -80,15 +85,19 @@ within-more m n more xs h = every-implies (AtMost m) (AtMost n) (λ x hx. omega 
 -- On the right of a pair.
 on-right-within :
     (o : Order) (l : Chart) (d n : ℕ) (xs : List Made) → levels l ≤ n → Within n xs → Within (1 + n) (onRight o l d xs)
-on-right-within strict l d n xs h hs = every-if (AtMost (1 + n)) (terminates l) xs (within-more n (1 + n) (omega arith) xs hs)
+on-right-within strict l d n xs h hs =
+    every-if (AtMost (1 + n)) (terminates l) xs (within-more n (1 + n) (omega arith) xs hs)
 on-right-within seq l d n xs h hs =
     every-if (AtMost (1 + n)) (evades l d) (map (newPair seq (prune l d)) xs)
-    (every-map (AtMost n) (AtMost (1 + n)) (newPair seq (prune l d)) (λ x hx. omega (arith, pruning-makes-no-deeper l d)) xs hs)
-on-right-within par l d n xs h hs = every-map (AtMost n) (AtMost (1 + n)) (newPair par (kept l)) (λ x hx. omega arith) xs hs
+    (every-map (AtMost n) (AtMost (1 + n)) (newPair seq (prune l d))
+    (λ x hx. omega (arith, pruning-makes-no-deeper l d)) xs hs)
+on-right-within par l d n xs h hs =
+    every-map (AtMost n) (AtMost (1 + n)) (newPair par (kept l)) (λ x hx. omega arith) xs hs
 
 -- A round more.
 after-round-within :
-    (k : Loop) (b : Chart) (d : ℕ) (x : Made) → made x ≤ 2 + levels b → made (afterRound k b d x) ≤ 2 + levels (loop k b)
+    (k : Loop) (b : Chart) (d : ℕ) (x : Made) → made x ≤ 2 + levels b
+    → made (afterRound k b d x) ≤ 2 + levels (loop k b)
 after-round-within (each strict) b d x h = omega arith
 after-round-within (each seq) b d x h = omega (arith, pruning-makes-no-deeper (loop (each seq) b) d)
 after-round-within (each par) b d x h = omega arith
@@ -110,12 +119,14 @@ two-levels-deeper (pair o l r) a =
     let lefts = map (λ x. newPair o x (kept r)) (follows l a) in
     let rights = onRight o l (a .line) (follows r a) in
     every-append (AtMost n) lefts rights
-    (every-map (AtMost (2 + levels l)) (AtMost n) (λ x. newPair o x (kept r)) (λ x h. omega arith) (follows l a) (two-levels-deeper l a))
+    (every-map (AtMost (2 + levels l)) (AtMost n) (λ x. newPair o x (kept r)) (λ x h. omega arith) (follows l a)
+    (two-levels-deeper l a))
     (within-more (1 + m) n (omega arith) rights
     (on-right-within o l (a .line) m (follows r a) (omega arith)
     (within-more (2 + levels r) m (omega arith) (follows r a) (two-levels-deeper r a))))
 two-levels-deeper (loop k b) a =
-    every-map (AtMost (2 + levels b)) (AtMost (2 + levels (loop k b))) (afterRound k b (a .line)) (after-round-within k b (a .line))
+    every-map (AtMost (2 + levels b)) (AtMost (2 + levels (loop k b))) (afterRound k b (a .line))
+    (after-round-within k b (a .line))
     (follows b a) (two-levels-deeper b a)
 
 -- A chart that is left when a log has been executed on a chart, by some occurrence of each action.

@@ -44,12 +44,17 @@ unaccepted-is : (d long : ℕ) (p : Bool) → (T p → d < long) → (T (not p) 
 unaccepted-is d long true f f⁻ =
     let h = f tt in ((λ e. h, λ g. refl), (λ e. absurd (omega arith), λ g. absurd (not-le-of-lt h g)), λ e. omega arith)
 unaccepted-is d long false f f⁻ =
-    let h = f⁻ tt in ((λ e. absurd (omega arith), λ g. absurd (not-le-of-lt g h)), (λ e. h, λ g. refl), λ e. omega arith)
+    let h = f⁻ tt in (
+      (λ e. absurd (omega arith), λ g. absurd (not-le-of-lt g h)),
+      (λ e. h, λ g. refl),
+      λ e. omega arith,
+    )
 
 module _ (long : ℕ) (s p : ℕ) where
   pub twenty-accepts : (o : Outcome) → (verdict long o s p .number ≡ 20) ↔ Accepts o
   twenty-accepts (accepted run) = (λ e. tt, λ h. refl)
-  twenty-accepts (refused d run) = (unaccepted-is d long (ltb d long) (ltb→lt d long) (nltb→le d long) .2, λ h. absurd h)
+  twenty-accepts (refused d run) =
+      (unaccepted-is d long (ltb d long) (ltb→lt d long) (nltb→le d long) .2, λ h. absurd h)
 
   twenty-one-used-up : (o : Outcome) → (verdict long o s p .number ≡ 21) ↔ UsedUp long o
   twenty-one-used-up (accepted run) = (λ e. omega arith, λ h. absurd h)
@@ -82,8 +87,10 @@ module _ (M : Traces) (t : Log) where
   used-up-is-short : (o : Outcome) → Decides M t o → UsedUp (length t) o ↔ ((¬ M t) × Longer M t)
   used-up-is-short (accepted run) k = (λ h. absurd h, λ w. w .0 (k .accepts .0 tt))
   used-up-is-short (refused d run) k =
-      let l = k .refuses in
-      (λ h. (k .accepts .1, begins-longer (longest-is-whole d l h) (k .accepts .1)), λ w. whole-is-longest d l (w .1 .0 ∷ w .1 .1, w .1 .2))
+      let l = k .refuses in (
+        λ h. (k .accepts .1, begins-longer (longest-is-whole d l h) (k .accepts .1)),
+        λ w. whole-is-longest d l (w .1 .0 ∷ w .1 .1, w .1 .2),
+      )
 
   pub deviates-begins-none : (o : Outcome) → Decides M t o → Deviates (length t) o ↔ (¬ Begins M t)
   deviates-begins-none (accepted run) k = (λ h. absurd h, λ n. n (begins-itself (k .accepts .0 tt)))
@@ -96,7 +103,8 @@ module _ (M : Traces) (t : Log) where
   pub accepted-iff : (o : Outcome) (s p : ℕ) → Decides M t o → (verdict (length t) o s p .number ≡ 20) ↔ M t
   accepted-iff o s p k = Iff·trans (twenty-accepts (length t) s p o) (k .accepts)
 
-  pub short-iff : (o : Outcome) (s p : ℕ) → Decides M t o → (verdict (length t) o s p .number ≡ 21) ↔ ((¬ M t) × Longer M t)
+  pub short-iff : (o : Outcome) (s p : ℕ) → Decides M t o → (verdict (length t) o s p .number ≡ 21)
+      ↔ ((¬ M t) × Longer M t)
   short-iff o s p k = Iff·trans (twenty-one-used-up (length t) s p o) (used-up-is-short o k)
 
   pub deviates-iff : (o : Outcome) (s p : ℕ) → Decides M t o → (verdict (length t) o s p .number ≡ 22) ↔ (¬ Begins M t)
@@ -112,7 +120,8 @@ module _ (M : Traces) (t : Log) where
   pub short-place : (o : Outcome) (s p : ℕ) → Decides M t o → verdict (length t) o s p .number ≡ 21
       → verdict (length t) o s p .place ≡ length t
   short-place (accepted run) s p k e = refl
-  short-place (refused d run) s p k e = le-antisymm (k .refuses .within) (twenty-one-used-up (length t) s p (refused d run) .0 e)
+  short-place (refused d run) s p k e =
+      le-antisymm (k .refuses .within) (twenty-one-used-up (length t) s p (refused d run) .0 e)
 
   pub deviates-place : (o : Outcome) (s p : ℕ) → Decides M t o → verdict (length t) o s p .number ≡ 22
       → Longest M t (verdict (length t) o s p .place)
@@ -121,7 +130,8 @@ module _ (M : Traces) (t : Log) where
 
 -- ---- the figures
 
-pub verdict-figures : (long : ℕ) (o : Outcome) (s p : ℕ) → (verdict long o s p .steps ≡ s) × (verdict long o s p .places ≡ p)
+pub verdict-figures : (long : ℕ) (o : Outcome) (s p : ℕ)
+    → (verdict long o s p .steps ≡ s) × (verdict long o s p .places ≡ p)
 verdict-figures long (accepted run) s p = (refl, refl)
 verdict-figures long (refused d run) s p = (refl, refl)
 
@@ -135,7 +145,8 @@ longest-agrees c t n l =
       longest = λ m h b. l .longest m h (b .0, published-iff-member c (take m t ++ b .0) .0 (b .1));
     }
 
-refuses-agrees : (c : Chart) (t : Log) (o : Outcome) → Refuses (Longest (Member c) t) o → Refuses (Longest (Published c) t) o
+refuses-agrees : (c : Chart) (t : Log) (o : Outcome) → Refuses (Longest (Member c) t) o
+    → Refuses (Longest (Published c) t) o
 refuses-agrees c t (accepted run) l = tt
 refuses-agrees c t (refused d run) l = longest-agrees c t d l
 

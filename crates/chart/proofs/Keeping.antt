@@ -11,7 +11,27 @@ use mathlib.Core.List.{List, [], _∷_, map}
 use mathlib.Core.Path.{_≡_, refl}
 use Rattle.chart.specs.Action.{Action, Every, same}
 use Rattle.chart.specs.Chart.{Order, strict, seq, par, Loop, each, head, Chart, empty, act, alt, pair, loop, size}
-use Rattle.chart.specs.Executing.{terminates, evades, Made, kept, newEmpty, newAlt, newPair, newLoop, chartOf, costOf, prunedAlt, prunedLoop, prune, letsPass, passed, onRight, begun, afterRound, follows}
+use Rattle.chart.specs.Executing.{
+  terminates,
+  evades,
+  Made,
+  kept,
+  newEmpty,
+  newAlt,
+  newPair,
+  newLoop,
+  chartOf,
+  costOf,
+  prunedAlt,
+  prunedLoop,
+  prune,
+  letsPass,
+  passed,
+  onRight,
+  begun,
+  afterRound,
+  follows,
+}
 use Rattle.chart.proofs.Each.{every-map, every-implies, every-append, every-if}
 
 -- A part of a chart: the chart itself, or a part of a side or of the body.
@@ -76,7 +96,8 @@ unfolding prune
 prune-keeps-leaves empty d = refl
 prune-keeps-leaves (act a) d = refl
 prune-keeps-leaves (alt l r) d =
-    pruned-alt (λ p. size p ≡ 1) (prune l d) (prune r d) (evades l d) (evades r d) (prune-keeps-leaves l d) (prune-keeps-leaves r d)
+    pruned-alt (λ p. size p ≡ 1) (prune l d) (prune r d) (evades l d) (evades r d) (prune-keeps-leaves l d)
+    (prune-keeps-leaves r d)
 prune-keeps-leaves (pair o l r) d = (prune-keeps-leaves l d, prune-keeps-leaves r d)
 prune-keeps-leaves (loop k b) d = pruned-loop (λ p. size p ≡ 1) k (prune b d) (evades b d) (prune-keeps-leaves b d)
 
@@ -111,7 +132,8 @@ on-right-keeps-parts : (o : Order) (l r : Chart) (d : ℕ) (xs : List Made) → 
     → Every (KeepsPartsOf (pair o l r)) (onRight o l d xs)
 on-right-keeps-parts strict l r d xs h =
     every-if (KeepsPartsOf (pair strict l r)) (terminates l) xs
-    (every-implies (KeepsPartsOf r) (KeepsPartsOf (pair strict l r)) (of-whole r (pair strict l r) (λ q. pair-right)) xs h)
+    (every-implies (KeepsPartsOf r) (KeepsPartsOf (pair strict l r)) (of-whole r (pair strict l r) (λ q. pair-right)) xs
+    h)
 on-right-keeps-parts seq l r d xs h =
     let left = of-whole l (pair seq l r) (λ q. pair-left) (passed l d) (prune-keeps-parts l d) in
     every-if (KeepsPartsOf (pair seq l r)) (letsPass l d) (map (newPair seq (passed l d)) xs)
@@ -127,7 +149,8 @@ begun-keeps-parts k b x h = (of-whole b (loop k b) (λ q. loop-body) x h, itself
 after-round-keeps-parts : (k : Loop) (b : Chart) (d : ℕ) (x : Made) → KeepsPartsOf b x
     → KeepsPartsOf (loop k b) (afterRound k b d x)
 after-round-keeps-parts (each strict) b d x h = begun-keeps-parts (each strict) b x h
-after-round-keeps-parts (each seq) b d x h = (prune-keeps-parts (loop (each seq) b) d, begun-keeps-parts (each seq) b x h)
+after-round-keeps-parts (each seq) b d x h =
+    (prune-keeps-parts (loop (each seq) b) d, begun-keeps-parts (each seq) b x h)
 after-round-keeps-parts (each par) b d x h = begun-keeps-parts (each par) b x h
 after-round-keeps-parts head b d x h = begun-keeps-parts head b x h
 
@@ -138,10 +161,13 @@ follows-keep-parts empty a = tt
 follows-keep-parts (act b) a = every-if (KeepsPartsOf (act b)) (same a b) (newEmpty ∷ []) (tt, tt)
 follows-keep-parts (alt l r) a =
     every-append (KeepsPartsOf (alt l r)) (follows l a) (follows r a)
-    (every-implies (KeepsPartsOf l) (KeepsPartsOf (alt l r)) (of-whole l (alt l r) (λ q. alt-left)) (follows l a) (follows-keep-parts l a))
-    (every-implies (KeepsPartsOf r) (KeepsPartsOf (alt l r)) (of-whole r (alt l r) (λ q. alt-right)) (follows r a) (follows-keep-parts r a))
+    (every-implies (KeepsPartsOf l) (KeepsPartsOf (alt l r)) (of-whole l (alt l r) (λ q. alt-left)) (follows l a)
+    (follows-keep-parts l a))
+    (every-implies (KeepsPartsOf r) (KeepsPartsOf (alt l r)) (of-whole r (alt l r) (λ q. alt-right)) (follows r a)
+    (follows-keep-parts r a))
 follows-keep-parts (pair o l r) a =
-    every-append (KeepsPartsOf (pair o l r)) (map (λ x. newPair o x (kept r)) (follows l a)) (onRight o l (a .line) (follows r a))
+    every-append (KeepsPartsOf (pair o l r)) (map (λ x. newPair o x (kept r)) (follows l a))
+    (onRight o l (a .line) (follows r a))
     (every-map (KeepsPartsOf l) (KeepsPartsOf (pair o l r)) (λ x. newPair o x (kept r))
     (λ x h. (of-whole l (pair o l r) (λ q. pair-left) x h, pair-right itself)) (follows l a) (follows-keep-parts l a))
     (on-right-keeps-parts o l r (a .line) (follows r a) (follows-keep-parts r a))

@@ -5,6 +5,7 @@ pub mod Evading
 pub mod Pruning
 pub mod Each
 pub mod Keeping
+pub mod Shrinking
 pub mod Growing
 pub mod Looping
 pub mod Choices

@@ -13,7 +13,15 @@ use Rattle.chart.specs.Chart.{strict, seq, par, Loop, each, head}
 use Rattle.chart.specs.Traces.{Traces, only, Joined, joined}
 use Rattle.chart.specs.Member.{Deal, left, right, Round, dealt, headed, Star, none, more}
 use Rattle.chart.specs.Executing.{between}
-use Rattle.chart.proofs.Deals.{deal-all-right, deal-left-is-empty, deal-every→, deal-every←, deal-regroups-left, deal-regroups-right, deal-exchanges}
+use Rattle.chart.proofs.Deals.{
+  deal-all-right,
+  deal-left-is-empty,
+  deal-every→,
+  deal-every←,
+  deal-regroups-left,
+  deal-regroups-right,
+  deal-exchanges,
+}
 
 -- The rest of a round that began with a, and the loop after it.
 abbrev pub Begun : Loop → Traces → Action → Traces
@@ -31,7 +39,8 @@ begins k M (joined s u m v x) = more m v (round-begins k x)
 
 pub strict-begins : (M : Traces) {a : Action} {t : Log} → Star (each strict) M (a ∷ t) → Begun (each strict) M a t
 strict-begins M (more m v (dealt (left {s = s} {u = u} x))) = joined s u m v x
-strict-begins M {a} (more m v (dealt (right only x))) = subst (Begun (each strict) M a) (deal-left-is-empty x) (strict-begins M v)
+strict-begins M {a} (more m v (dealt (right only x))) =
+    subst (Begun (each strict) M a) (deal-left-is-empty x) (strict-begins M v)
 
 pub head-begins : (M : Traces) {a : Action} {t : Log} → Star head M (a ∷ t) → Begun head M a t
 head-begins M (more m v (headed {s = s} {u = u} x)) = joined s u m v x
@@ -51,7 +60,8 @@ abbrev pub Fronted : Traces → Action → Traces
 Fronted M a = Joined (Deal seq) (λ f. Star (each seq) M f × Clear (a .line) f) (Begun (each seq) M a)
 
 pub weak-begins→ : (M : Traces) {a : Action} {t : Log} → Star (each seq) M (a ∷ t) → Fronted M a t
-weak-begins→ M {a} {t} (more m v (dealt (left {s = s} {u = u} x))) = joined [] t (none, tt) (joined s u m v x) (deal-all-right seq t)
+weak-begins→ M {a} {t} (more m v (dealt (left {s = s} {u = u} x))) =
+    joined [] t (none, tt) (joined s u m v x) (deal-all-right seq t)
 weak-begins→ M {a} (more m v (dealt (right {u = u} {t = t} n x))) = regroup (weak-begins→ M v)
   where
     regroup : Fronted M a u → Fronted M a t

@@ -26,7 +26,8 @@ telling = receives 1 0 ∷ receives 0 1 ∷ receives 1 0 ∷ emits 1 1 ∷ []
 
 pub in-the-head-loop-of-the-strict-loop : Published (loop head (loop (each strict) body)) telling
 unfolding explore tries follows prune
-in-the-head-loop-of-the-strict-loop = search-decides-the-published-set (loop head (loop (each strict) body)) telling .accepts .0 tt
+in-the-head-loop-of-the-strict-loop =
+    search-decides-the-published-set (loop head (loop (each strict) body)) telling .accepts .0 tt
 
 pub in-the-head-loop-of-the-head-loop : Published (loop head (loop head body)) telling
 unfolding explore tries follows prune
@@ -37,8 +38,10 @@ unfolding explore tries follows prune
 not-in-the-head-loop m = search-decides-the-published-set (loop head body) telling .accepts .1 m
 
 -- So neither equation holds.
-pub head-loop-of-strict-loop-is-another : ¬ ((t : Log) → Published (loop head (loop (each strict) body)) t ↔ Published (loop head body) t)
+pub head-loop-of-strict-loop-is-another : ¬
+    ((t : Log) → Published (loop head (loop (each strict) body)) t ↔ Published (loop head body) t)
 head-loop-of-strict-loop-is-another equal = not-in-the-head-loop (equal telling .0 in-the-head-loop-of-the-strict-loop)
 
-pub head-loop-of-head-loop-is-another : ¬ ((t : Log) → Published (loop head (loop head body)) t ↔ Published (loop head body) t)
+pub head-loop-of-head-loop-is-another : ¬
+    ((t : Log) → Published (loop head (loop head body)) t ↔ Published (loop head body) t)
 head-loop-of-head-loop-is-another equal = not-in-the-head-loop (equal telling .0 in-the-head-loop-of-the-head-loop)

@@ -16,7 +16,17 @@ use lib.ListN.{length, take, getD}
 use lib.Seq.{take-length}
 use Rattle.chart.specs.Action.{Log}
 use Rattle.chart.specs.Chart.{Chart, size}
-use Rattle.chart.specs.Searching.{Outcome, accepted, refused, searched, runOf, most, stepsOf, placesOf, placesAfter}
+use Rattle.chart.specs.Searching.{
+  Outcome,
+  accepted,
+  refused,
+  searched,
+  runOf,
+  most,
+  stepsOf,
+  placesOf,
+  placesAfter,
+}
 use Rattle.chart.specs.Lending.{Answer, Ending, unaccepted, halted, told, answer}
 use Rattle.chart.specs.Reaching.{Reaches, Verdict, Wants, Exceeds}
 use Rattle.chart.proofs.Walking.{ending, verdict, verdictOf, spent, answer-is-spent}
@@ -183,7 +193,8 @@ module _ (c : Chart) (t : Log) (allowance room : ℕ) where
   -- ---- the case that each number tells
 
   is-verdict : {q : Answer} → q ≡ verdictOf c t → Verdict (q .number)
-  is-verdict e = subst Verdict (sym (number-is e)) (verdict-number (length t) (searched c t) (stepsOf c t) (placesOf c t))
+  is-verdict e =
+      subst Verdict (sym (number-is e)) (verdict-number (length t) (searched c t) (stepsOf c t) (placesOf c t))
 
   pub verdict-iff-reaches : Verdict (given .number) ↔ Reaches c t allowance room
   verdict-iff-reaches = (tells answer-case, λ r. is-verdict (reached-answer r))
@@ -204,7 +215,8 @@ module _ (c : Chart) (t : Log) (allowance room : ℕ) where
       tells {q} (ten k h e) n = let m = number-is e in absurd (omega arith)
 
   pub ten-iff-exceeds : (given .number ≡ 10) ↔ ((room < size c) ⊎ ((k : ℕ) × Exceeds c t allowance room k))
-  ten-iff-exceeds = (tells answer-case, ⊎-elim (λ h. number-is (too-large-answer h)) (λ w. number-is (exceeded-answer (w .0) (w .1))))
+  ten-iff-exceeds =
+      (tells answer-case, ⊎-elim (λ h. number-is (too-large-answer h)) (λ w. number-is (exceeded-answer (w .0) (w .1))))
     where
       tells : {q : Answer} → Case q → q .number ≡ 10 → (room < size c) ⊎ ((k : ℕ) × Exceeds c t allowance room k)
       tells {q} (too-large h e) n = inl h

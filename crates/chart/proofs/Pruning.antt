@@ -98,8 +98,10 @@ pair-keeps d o L M L′ M′ f g t = (there, λ w. back (w .0) (w .1))
 loop-keeps : (d : ℕ) (k : Loop) (b : Chart) (m : Made) (p : Bool)
     → (T p → Keeps d (Member b) (Member (chartOf m))) → (¬ T p → Acts d (Member b))
     → Keeps d (Member (loop k b)) (Member (chartOf (prunedLoop p k m)))
-loop-keeps d k b m true f f⁻ t =
-    (star-keeps→ d (Member b) (Member (chartOf m)) (f tt) t, λ w. star-keeps← d (Member b) (Member (chartOf m)) (f tt) t (w .0) (w .1))
+loop-keeps d k b m true f f⁻ t = (
+  star-keeps→ d (Member b) (Member (chartOf m)) (f tt) t,
+  λ w. star-keeps← d (Member b) (Member (chartOf m)) (f tt) t (w .0) (w .1),
+)
 loop-keeps d k b m false f f⁻ t = (nothing, λ w. star-keeps-no-round d (Member b) (f⁻ (λ z. z)) t (w .0) (w .1))
   where
     nothing : {t : Log} → Only [] t → Star k (Member b) t × Avoids d t
@@ -121,14 +123,16 @@ prune-keeps (alt l r) d h =
     (either→ (evades l d) (evades r d) h)
 prune-keeps (pair o l r) d h =
     let (p, q) = both→ (evades l d) (evades r d) h in
-    pair-keeps d o (Member l) (Member r) (Member (chartOf (prune l d))) (Member (chartOf (prune r d))) (prune-keeps l d p) (prune-keeps r d q)
+    pair-keeps d o (Member l) (Member r) (Member (chartOf (prune l d))) (Member (chartOf (prune r d)))
+    (prune-keeps l d p) (prune-keeps r d q)
 prune-keeps (loop k b) d h = loop-keeps d k b (prune b d) (evades b d) (prune-keeps b d) (acts-unless-it-evades b d)
 
 -- ---- pruned once, pruned for good
 
 -- What was pruned by d still evades d: the log that avoids d was kept.
 pub pruned-evades : (c : Chart) (d : ℕ) → T (evades c d) → T (evades (chartOf (prune c d)) d)
-pruned-evades c d h = let (t, m, e) = evades→ c d h in evades← (chartOf (prune c d)) d t (prune-keeps c d h t .1 (m, e)) e
+pruned-evades c d h =
+    let (t, m, e) = evades→ c d h in evades← (chartOf (prune c d)) d t (prune-keeps c d h t .1 (m, e)) e
 
 -- m is what pruning by d gives, and pruning by d gives it again
 abbrev Settled : ℕ → Made → Type 0
@@ -162,7 +166,8 @@ prune-is-idempotent (alt l r) d h =
 prune-is-idempotent (pair o l r) d h =
     let (p, q) = both→ (evades l d) (evades r d) h in
     ap₂ (pair o) (prune-is-idempotent l d p) (prune-is-idempotent r d q)
-prune-is-idempotent (loop k b) d h = loop-settled d k (prune b d) (evades b d) (λ p. (pruned-evades b d p, prune-is-idempotent b d p))
+prune-is-idempotent (loop k b) d h =
+    loop-settled d k (prune b d) (evades b d) (λ p. (pruned-evades b d p, prune-is-idempotent b d p))
 
 -- ---- the left of a seq
 

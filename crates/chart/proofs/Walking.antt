@@ -14,8 +14,34 @@ use lib.ListN.{length}
 use Rattle.chart.specs.Action.{Log}
 use Rattle.chart.specs.Chart.{Chart, size}
 use Rattle.chart.specs.Executing.{Made, chartOf, costOf, terminates, follows}
-use Rattle.chart.specs.Searching.{Outcome, accepted, refused, orElse, step, tries, explore, searched, runOf, stepsOf, placesOf}
-use Rattle.chart.specs.Lending.{Answer, told, Ending, found, failed, stopped, followUp, deepened, orNext, attempts, walk, halted, answer}
+use Rattle.chart.specs.Searching.{
+  Outcome,
+  accepted,
+  refused,
+  orElse,
+  step,
+  tries,
+  explore,
+  searched,
+  runOf,
+  stepsOf,
+  placesOf,
+}
+use Rattle.chart.specs.Lending.{
+  Answer,
+  told,
+  Ending,
+  found,
+  failed,
+  stopped,
+  followUp,
+  deepened,
+  orNext,
+  attempts,
+  walk,
+  halted,
+  answer,
+}
 
 -- How a search ends that was not stopped.
 abbrev pub ending : Outcome → ℕ → ℕ → Ending
@@ -105,7 +131,8 @@ module _ (allowance room : ℕ) where
       (spend-then (λ w. orNext w (spent rest)) (λ number s p. refl) run found) s p
   or-next-spent (refused d run) rest n s p =
       next-alike n (λ s p. orNext (spend run (failed d) s p) (spent rest)) (spent (orElse d run rest))
-      (λ s p. spend-then (λ w. orNext w (spent rest)) (λ number s p. refl) run (failed d) s p ∙ failed-spent d run rest s p) s p
+      (λ s p. spend-then (λ w. orNext w (spent rest)) (λ number s p. refl) run (failed d) s p
+      ∙ failed-spent d run rest s p) s p
       ∙ taken rest
     where
       taken : (rest : Outcome) → next n (spent (orElse d run rest)) s p ≡ spent (orElse d (n ∷ run) rest) s p
@@ -127,7 +154,8 @@ module _ (allowance room : ℕ) where
 
   -- ---- the search
 
-  at-end-spent : (b : Bool) (s p : ℕ) → cond b (found s p) (failed 0 s p) ≡ spent (cond b (accepted []) (refused 0 [])) s p
+  at-end-spent : (b : Bool) (s p : ℕ) → cond b (found s p) (failed 0 s p)
+      ≡ spent (cond b (accepted []) (refused 0 [])) s p
   unfolding spend
   at-end-spent true s p = refl
   at-end-spent false s p = refl
@@ -137,11 +165,14 @@ module _ (allowance room : ℕ) where
   unfolding walk explore
   walk-is-spent [] c used = at-end-spent (terminates c)
   walk-is-spent (a ∷ t) c used =
-      attempts-spent (λ x n s p. walk allowance room t x n s p) (λ x n. explore t x n) (walk-is-spent t) used (follows c a)
+      attempts-spent (λ x n s p. walk allowance room t x n s p) (λ x n. explore t x n) (walk-is-spent t) used
+      (follows c a)
 
 -- The answer, by the run.
 pub answer-is-spent : (c : Chart) (t : Log) (allowance room : ℕ)
-    → answer c t allowance room ≡ cond (ltb room (size c)) (halted 10 0 0) (told (length t) (spent allowance room (searched c t) 0 (size c)))
+    → answer c t allowance room
+    ≡ cond (ltb room (size c)) (halted 10 0 0) (told (length t) (spent allowance room (searched c t) 0 (size c)))
 unfolding answer
 answer-is-spent c t allowance room =
-    ap (λ w. cond (ltb room (size c)) (halted 10 0 0) (told (length t) w)) (walk-is-spent allowance room t c (size c) 0 (size c))
+    ap (λ w. cond (ltb room (size c)) (halted 10 0 0) (told (length t) w))
+    (walk-is-spent allowance room t c (size c) 0 (size c))

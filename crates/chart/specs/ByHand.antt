@@ -40,7 +40,13 @@ pub record Row : Type 0 where
 -- (chart, log, allowance, room; number, place, steps, places)
 abbrev pub row : Chart → Log → ℕ → ℕ → ℕ → ℕ → ℕ → ℕ → Row
 row c t a r n p s q =
-    record { chart = c; log = t; allowance = a; room = r; expected = record { number = n; place = p; steps = s; places = q } }
+    record {
+      chart = c;
+      log = t;
+      allowance = a;
+      room = r;
+      expected = record { number = n; place = p; steps = s; places = q };
+    }
 
 unfoldable pub rows : List Row
 rows =

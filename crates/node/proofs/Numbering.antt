@@ -11,25 +11,10 @@ use lib.ListN.{length, getD}
 use Rattle.chart.specs.Chart.{Loop}
 use Rattle.chart.specs.Chart.Order.{strict, seq, par}
 use Rattle.chart.specs.Chart.Loop.{each, head}
-use Rattle.node.specs.Kind.{Kind, kindOf, allKinds, Pair}
+use Rattle.node.specs.Kind.{Kind, kindOf, allKinds, numberOf, Pair}
 use Rattle.node.specs.Kind.Pair.{composed, choice}
 use Rattle.node.specs.Kind.Kind.{nothing, action, pairs, loops, unknown}
 use Rattle.node.proofs.Ranges.{above-ten-is-unknown}
-
--- The number of a kind (01, The chart card).
-abbrev pub numberOf : Kind → ℕ
-numberOf nothing = 0
-numberOf (action false) = 1
-numberOf (action true) = 2
-numberOf (pairs (composed strict)) = 3
-numberOf (pairs (composed seq)) = 4
-numberOf (pairs (composed par)) = 5
-numberOf (pairs choice) = 6
-numberOf (loops (each strict)) = 7
-numberOf (loops head) = 8
-numberOf (loops (each seq)) = 9
-numberOf (loops (each par)) = 10
-numberOf unknown = 11
 
 -- The kinds of the list are numbered from `low` on.
 abbrev Numbered : ℕ → List Kind → Type 0
@@ -68,6 +53,22 @@ known-kinds k known = by (decLt k 11)
 pub kind-has-its-number : (k : ℕ) (is : Kind) → kindOf k ≡ is → Known is → k ≡ numberOf is
 kind-has-its-number k is e known = sym (numbered k (known-kinds k (subst Known (sym e) known))) ∙ ap numberOf e
 
+-- The number of a known kind is that of its kind.
+pub number-of-its-kind : (k : Kind) → Known k → kindOf (numberOf k) ≡ k
+unfolding kindOf
+number-of-its-kind nothing known = refl
+number-of-its-kind (action false) known = refl
+number-of-its-kind (action true) known = refl
+number-of-its-kind (pairs (composed strict)) known = refl
+number-of-its-kind (pairs (composed seq)) known = refl
+number-of-its-kind (pairs (composed par)) known = refl
+number-of-its-kind (pairs choice) known = refl
+number-of-its-kind (loops (each strict)) known = refl
+number-of-its-kind (loops head) known = refl
+number-of-its-kind (loops (each seq)) known = refl
+number-of-its-kind (loops (each par)) known = refl
+number-of-its-kind unknown known = absurd known
+
 abbrev pair-in : Kind → Pair
 pair-in nothing = choice
 pair-in (action r) = choice
@@ -91,7 +92,8 @@ one-loop k j l m same e f = ap loop-in (sym e ∙ ap kindOf (sym same) ∙ f)
 
 -- A pair with no number of an order is the choice.
 pub else-the-choice : (k : ℕ) (q : Pair) → kindOf k ≡ pairs q → k ≢ 3 → k ≢ 4 → k ≢ 5 → choice ≡ q
-else-the-choice k (composed strict) e three four five = absurd (three (kind-has-its-number k (pairs (composed strict)) e tt))
+else-the-choice k (composed strict) e three four five =
+    absurd (three (kind-has-its-number k (pairs (composed strict)) e tt))
 else-the-choice k (composed seq) e three four five = absurd (four (kind-has-its-number k (pairs (composed seq)) e tt))
 else-the-choice k (composed par) e three four five = absurd (five (kind-has-its-number k (pairs (composed par)) e tt))
 else-the-choice k choice e three four five = refl

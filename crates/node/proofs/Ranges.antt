@@ -34,7 +34,8 @@ listed C xs low part k from to =
     let (x, e) = member C xs j (omega arith) in (
       x,
       ap (λ n. getD allKinds n unknown) same ∙ sym (getD-drop low allKinds j unknown)
-          ∙ sym (getD-take (length xs) (drop low allKinds) j unknown (omega arith)) ∙ ap (λ l. getD l j unknown) part ∙ e,
+          ∙ sym (getD-take (length xs) (drop low allKinds) j unknown (omega arith)) ∙ ap (λ l. getD l j unknown) part
+          ∙ e,
     )
 
 pub zero-is-nothing : (k : ℕ) → k ≡ 0 → kindOf k ≡ nothing

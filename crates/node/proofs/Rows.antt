@@ -15,7 +15,7 @@ use Rattle.node.specs.Kind.Pair.{composed, choice}
 use Rattle.node.specs.Kind.Kind.{nothing, action, pairs, loops, unknown}
 use Rattle.node.specs.Row.{stands, standsAs, chartsAfter, charts, children, childrenAs, highest, Below}
 
-chartsAfter-append :
+pub chartsAfter-append :
     (before : List Chart) (row more : List Node)
     → chartsAfter before (row ++ more) ≡ chartsAfter (chartsAfter before row) more
 chartsAfter-append before [] more = refl

@@ -40,3 +40,18 @@ allKinds =
 -- The kind with that number.
 unfoldable pub kindOf : ℕ → Kind
 kindOf k = getD allKinds k unknown
+
+-- The number of a kind (01, The chart card); that of no kind is one that is not used.
+abbrev pub numberOf : Kind → ℕ
+numberOf nothing = 0
+numberOf (action false) = 1
+numberOf (action true) = 2
+numberOf (pairs (composed strict)) = 3
+numberOf (pairs (composed seq)) = 4
+numberOf (pairs (composed par)) = 5
+numberOf (pairs choice) = 6
+numberOf (loops (each strict)) = 7
+numberOf (loops head) = 8
+numberOf (loops (each seq)) = 9
+numberOf (loops (each par)) = 10
+numberOf unknown = 11

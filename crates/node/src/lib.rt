@@ -41,10 +41,12 @@ impl Node {
 
     pub const DEPTH: u32 = 16;
 
-    // Nodes of a card, and the bytes of each.
+    // Nodes of a card, and the bytes of each, of the trailer and of the card.
     pub const NODES: usize = 255;
 
     pub const NODE_BYTES: usize = 4;
+
+    pub const TRAILER_BYTES: usize = 6;
 
     pub const CARD_BYTES: usize = 4096;
 
