@@ -3,13 +3,33 @@ ghost use mathlib.Core.Path.{_≡_};
 ghost use Prim.Native.Nat.{_≤_};
 ghost use lib.ListN.{length};
 ghost use Rattle.card.specs.Table.{Sound};
-ghost use Rattle.laying.specs.Rooms.{laying, laidIn};
+ghost use Rattle.laying.specs.Rooms.{taken, laying, laidIn};
+ghost use Rattle.laying.specs.declared.Laid.the-variants.{Whole};
 use room::Root;
 
 // What laying answers: the whole chart, or that it exceeds the room.
 pub enum Laid {
     Whole(Root),
     TooLittle,
+}
+
+// The chart of a sound card in the first places of a room that has as many.
+pub fn lay_whole(card: &[u8], room: &mut [u32]) -> Root
+    requires { ⌜ Sound (now card) × taken (now card) ≤ length (now room) × length (now room) ≤ 16384 ⌝ }
+    ensures { λ r.
+        ⌜ Whole r ≡ laying (now (card .entry)) (now (room .entry))
+        × now (room .exit) ≡ laidIn (now (card .entry)) (now (room .entry)) ⌝ }
+{
+    let nodes = parts::nodes(card);
+    let count = parts::count(nodes);
+    let mut root = Root { place: 0, used: 0 };
+    let mut i = 0;
+    while i < count {
+        let node = parts::node_at(nodes, i);
+        root = places::add(room, node.kind, node.a, node.b, i as u32);
+        i += 1;
+    }
+    root
 }
 
 // The chart of a sound card in the first places of a room. Too little room is seen before anything is written.
@@ -24,12 +44,5 @@ pub fn lay(card: &[u8], room: &mut [u32]) -> Laid
     if room.len() < count {
         return Laid::TooLittle;
     }
-    let mut root = Root { place: 0, used: 0 };
-    let mut i = 0;
-    while i < count {
-        let node = parts::node_at(nodes, i);
-        root = places::add(room, node.kind, node.a, node.b, i as u32);
-        i += 1;
-    }
-    Laid::Whole(root)
+    Laid::Whole(lay_whole(card, room))
 }

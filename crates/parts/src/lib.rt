@@ -7,8 +7,6 @@ ghost use Rattle.card.specs.Parts.{trailerByte, backOf, lifelinesOf, messagesOf
 ghost use Rattle.card.specs.Nodes.{countOf, nodeAt, spareAt};
 use node::Node;
 
-const TRAILER: usize = 6;
-
 // A byte as a number.
 pub fn wide(byte: u8) -> u32
     ensures { λ r. ⌜ r ≡ byte ⌝ }
@@ -22,10 +20,10 @@ pub fn trailer(card: &[u8], k: usize) -> u32
     ensures { λ r. ⌜ r ≡ trailerByte (now (card .entry)) k ⌝ }
 {
     let size = card.len();
-    if size < TRAILER {
+    if size < Node::TRAILER_BYTES {
         return 0;
     }
-    wide(card[size - TRAILER + k])
+    wide(card[size - Node::TRAILER_BYTES + k])
 }
 
 // The back distance, low byte first: how many bytes the nodes take.
@@ -56,10 +54,10 @@ pub fn trailer_at(card: &[u8]) -> usize
     ensures { λ r. ⌜ r ≡ trailerAt (now (card .entry)) ⌝ }
 {
     let size = card.len();
-    if size < TRAILER {
+    if size < Node::TRAILER_BYTES {
         return 0;
     }
-    size - TRAILER
+    size - Node::TRAILER_BYTES
 }
 
 // Where the first node begins, which is where the note ends.
