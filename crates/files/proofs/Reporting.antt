@@ -5,7 +5,7 @@ use mathlib.Core.List.{List}
 use mathlib.Core.Path.{_≡_, ap, _∙_}
 use native.Mathlib.Omega.{arith}
 use lib.ListN.{length, take, length-take}
-use Rattle.judge.specs.Judgment.{judgment}
+use Rattle.judgment.specs.Judgment.{judgment}
 use Rattle.files.specs.declared.Told.{Told}
 use Rattle.files.specs.declared.Told.the-variants.{Answer, NoFile}
 use Rattle.files.specs.Telling.{allowance, room, Tells, Reports}

@@ -5,7 +5,7 @@ use Prim.Native.Nat.{ℕ, _≤_}
 use mathlib.Core.List.{List}
 use mathlib.Core.Path.{_≡_}
 use lib.ListN.{length, take}
-use Rattle.judge.specs.Judgment.{judgment, Judges}
+use Rattle.judgment.specs.Judgment.{judgment, Judges}
 use Rattle.files.specs.declared.Told.{Told}
 use Rattle.files.specs.declared.Told.the-variants.{Answer, NoFile}
 

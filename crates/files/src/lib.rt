@@ -4,17 +4,18 @@ ghost use mathlib.Core.Path.{_≡_};
 ghost use lib.ListN.{length};
 ghost use Rattle.files.specs.Reading.{ReadInto};
 ghost use Rattle.files.specs.Telling.{Tells, Reports};
-use judge::Judged;
+use judgment::Judged;
+use node::Node;
 
 // The allowance and the room that the program lends.
 const ALLOWANCE: u32 = 1000000;
 
-const ROOM: usize = 16384;
+const ROOM: usize = Node::PLACES;
 
-// The bytes for a card and for a log.
-const CARD: usize = 4097;
+// The bytes for a card and for a log: one more than each may have, so that a longer file is seen to be too long.
+const CARD: usize = Node::CARD_BYTES + 1;
 
-const LOG: usize = 257;
+const LOG: usize = log::MOST_BYTES + 1;
 
 // What reading a file came to: how many bytes it has, or nothing that can be relied on.
 pub enum Content {

@@ -19,7 +19,7 @@ use Rattle.room.specs.Room.{Table}
 use Rattle.room.specs.Building.{Follows, added, rootAt}
 use Rattle.room.proofs.Standing.{kept-self}
 use Rattle.room.proofs.Adding.{empty-builds}
-use Rattle.follow.specs.Passing.{occurrences}
+use Rattle.follow.specs.Occurrences.{occurrences}
 
 module _ (a b : Action) where
   pub other-lifeline : a .line ≢ b .line → false ≡ same a b

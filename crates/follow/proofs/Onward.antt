@@ -17,7 +17,7 @@ use Rattle.room.specs.Room.{chartIn, Table, Rooted}
 use Rattle.room.specs.Building.{Follows}
 use Rattle.room.proofs.Standing.{kept-chart, kept-table}
 use Rattle.room.proofs.Apart.{table-rooted, kept-rooted}
-use Rattle.follow.proofs.Answering.{answer-keeps}
+use Rattle.room.proofs.Answering.{answer-keeps}
 
 module _ (before : List ℕ) (used : ℕ) (xs : List Made) (k : ℕ) (after : List ℕ) where
   module _ (answer : Executed) (given : Follows before used xs k after answer) (table : Table before used) where

@@ -36,9 +36,11 @@ use Rattle.room.proofs.Apart.{
   body-lower,
 }
 use Rattle.room.proofs.Adding.{builds-more}
-use Rattle.follow.specs.Passing.{besideRight, besideLeft, occurrences, Carries, Turns, Beside}
+use Rattle.room.specs.Passing.{Carries, Turns, Beside}
+use Rattle.pairs.specs.Beside.{besideRight, besideLeft}
+use Rattle.follow.specs.Occurrences.{occurrences}
 use Rattle.follow.proofs.Occurring.{direction}
-use Rattle.follow.proofs.Answering.{
+use Rattle.room.proofs.Answering.{
   answer-keeps,
   changed-follow-up,
   changed-missing,
@@ -46,7 +48,7 @@ use Rattle.follow.proofs.Answering.{
   in-the-second,
   none-to-follow,
 }
-use Rattle.follow.proofs.Pairing.{follows-of-a-pair, stands-beside}
+use Rattle.pairs.proofs.Pairing.{follows-of-a-pair, stands-beside}
 
 module _ (work : Working) (k : ℕ) (a : Action) where
   abbrev r : Reading
@@ -235,7 +237,8 @@ module _ (work : Working) (k : ℕ) (a : Action) where
         one-round after y carries =
             let (l, is, whole) = loop-here r low high in
             let (b, there) = body-lower r low high in
-            let node : nodeIn middle place ≡ n = kept-node used before middle (built .kept) place below ∙ sym (r .here) in
+            let node : nodeIn middle place ≡ n
+            = kept-node used before middle (built .kept) place below ∙ sym (r .here) in
             let same : chartIn middle (nodeIn middle place .a) ≡ chartIn before (n .a)
             = ap (λ m. chartIn middle (m .a)) node
             ∙ kept-chart used before middle (built .kept) (n .a) (omega arith) (there .inside) in

@@ -1,2 +1,2 @@
--- Working definitions of executing.
-pub mod Passing
+-- A working definition of executing.
+pub mod Occurrences

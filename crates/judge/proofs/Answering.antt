@@ -17,7 +17,16 @@ use Rattle.room.specs.declared.Root.{Root}
 use Rattle.room.specs.Room.{chartIn, Table, Rooted}
 use Rattle.laying.specs.declared.Laid.the-variants.{Whole, TooLittle}
 use Rattle.laying.specs.Rooms.{laying, laidIn}
-use Rattle.laying.proofs.Onward.{too-little-exceeds, whole-fits, whole-keeps-the-length, whole-counts-the-chart, whole-is-a-table, whole-is-below, whole-is-rooted, whole-stands}
+use Rattle.laying.proofs.Onward.{
+  too-little-exceeds,
+  whole-fits,
+  whole-keeps-the-length,
+  whole-counts-the-chart,
+  whole-is-a-table,
+  whole-is-below,
+  whole-is-rooted,
+  whole-stands,
+}
 use Rattle.search.specs.declared.Ended.{Ended}
 use Rattle.search.specs.Ending.{endingOf, Searches}
 

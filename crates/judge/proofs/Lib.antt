@@ -1,7 +1,2 @@
--- Laws of judging. A reader of the demands begins at the end, with Promises.
+-- Laws of the code that judges: its answers are those of the definition.
 pub mod Answering
-pub mod Refusing
-pub mod Telling
-pub mod Numbers
-pub mod Wiped
-pub mod Promises

@@ -1,30 +1,20 @@
 // The judgment of a log by a card (01, "Verdicts and numbers given"): any card, log, allowance and room get their one
 // answer.
 ghost use mathlib.Core.Path.{_≡_};
-ghost use Prim.Native.Nat.{min, _≤_};
+ghost use Prim.Native.Nat.{_≤_};
 ghost use lib.Dec.{ltb};
 ghost use lib.ListN.{length, replicate};
-ghost use Rattle.chart.specs.Lending.{halted, unaccepted, told, answer};
+ghost use Rattle.chart.specs.Lending.{unaccepted, told, answer};
 ghost use Rattle.card.specs.Nodes.{cardChart};
 ghost use Rattle.card.specs.Table.{Sound};
 ghost use Rattle.log.specs.Bytes.{logOf};
 ghost use Rattle.search.specs.Ending.{endingOf, leftOf};
-ghost use Rattle.judge.specs.Judgment.{usable, judgedOf, refusedAt, judgment, roomAfter};
+ghost use Rattle.judgment.specs.Judgment.{usable, judgedOf, refusedAt, judgment, roomAfter};
 use card::Finding;
+use judgment::Judged;
 use laying::Laid;
+use node::Node;
 use search::Ended;
-
-// The most places of a room that are used: a place number has 14 bits.
-const MOST_PLACES: usize = 16384;
-
-// What a judgment returns.
-#[repr(C)]
-pub struct Judged {
-    pub number: u32,
-    pub place: u32,
-    pub steps: u32,
-    pub places: u32,
-}
 
 // A refusal has no figures, and neither has a chart that exceeds the room.
 fn refused(number: u32, place: u32) -> Judged
@@ -96,17 +86,6 @@ fn answer_in(card: &[u8], log: &[u8], allowance: u32, room: &mut [u32]) -> Judge
     tell(ended, allowance, (log.len() / log::ACTION_BYTES) as u32)
 }
 
-// Every number zero.
-fn clear(room: &mut [u32])
-    ensures { λ r. ⌜ now (room .exit) ≡ replicate (length (now (room .entry))) 0 ⌝ }
-{
-    let mut i = 0;
-    while i < room.len() {
-        room[i] = 0;
-        i += 1;
-    }
-}
-
 // The answer to a sound card and log, and the room cleared.
 fn judge_sound(card: &[u8], log: &[u8], allowance: u32, room: &mut [u32]) -> Judged
     requires { ⌜ Sound (now card) × length (now log) ≤ 256 × length (now room) ≤ 16384 ⌝ }
@@ -116,7 +95,7 @@ fn judge_sound(card: &[u8], log: &[u8], allowance: u32, room: &mut [u32]) -> Jud
         × now (room .exit) ≡ replicate (length (now (room .entry))) 0 ⌝ }
 {
     let judged = answer_in(card, log, allowance, room);
-    clear(room);
+    places::clear(room);
     judged
 }
 
@@ -124,10 +103,10 @@ fn judge_sound(card: &[u8], log: &[u8], allowance: u32, room: &mut [u32]) -> Jud
 fn usable(long: usize) -> usize
     ensures { λ r. ⌜ r ≡ usable long ⌝ }
 {
-    if long < MOST_PLACES {
+    if long < Node::PLACES {
         long
     } else {
-        MOST_PLACES
+        Node::PLACES
     }
 }
 

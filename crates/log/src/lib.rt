@@ -11,7 +11,7 @@ use room::Action;
 // The bytes of an action, and the most bytes of a log: 128 actions.
 pub const ACTION_BYTES: usize = 2;
 
-const MOST_BYTES: usize = 256;
+pub const MOST_BYTES: usize = 256;
 
 // An action by its two bytes: lifeline times 2, plus 0 for emission or 1 for reception; then the message.
 pub fn action_of(first: u8, second: u8) -> Action

@@ -1,7 +1,7 @@
-// Places of a room, read and written. While a log is judged these functions alone touch its numbers.
+// Places of a room, read, written and cleared. These functions alone touch a room's numbers.
 ghost use mathlib.Core.Path.{_≡_};
 ghost use Prim.Native.Nat.{_<_};
-ghost use lib.ListN.{length};
+ghost use lib.ListN.{length, replicate};
 ghost use Rattle.room.specs.Room.{nodeIn, Table};
 ghost use Rattle.room.specs.Building.{added, rootAt};
 use node::Node;
@@ -39,5 +39,16 @@ pub fn add(room: &mut [u32], kind: u32, a: u32, b: u32, used: u32) -> Root
     Root {
         place: used,
         used: room.len() as u32 + 1,
+    }
+}
+
+// Every number zero.
+pub fn clear(room: &mut [u32])
+    ensures { λ r. ⌜ now (room .exit) ≡ replicate (length (now (room .entry))) 0 ⌝ }
+{
+    let mut i = 0;
+    while i < room.len() {
+        room[i] = 0;
+        i += 1;
     }
 }

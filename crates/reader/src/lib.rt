@@ -36,15 +36,15 @@ pub fn check(card: &[u8]) -> Checked
         return refused(3, 0);
     }
     let nodes = parts::nodes(card);
-    let fault = scan::faults::lowest_faulty(nodes, parts::lifelines(card), parts::messages(card));
+    let fault = faults::lowest_faulty(nodes, parts::lifelines(card), parts::messages(card));
     if let Finding::Refused { number, place } = fault {
         return refused(number, place);
     }
-    let misuse = scan::trees::lowest_misused(nodes);
+    let misuse = trees::lowest_misused(nodes);
     if let Finding::Refused { number, place } = misuse {
         return refused(number, place);
     }
-    let depth = scan::figures::depth(nodes);
+    let depth = figures::depth(nodes);
     if Node::DEPTH < depth {
         return refused(6, 0);
     }
@@ -53,7 +53,7 @@ pub fn check(card: &[u8]) -> Checked
         place: 0,
         nodes: parts::count(nodes) as u32,
         depth,
-        lifelines: scan::figures::acting(nodes),
+        lifelines: figures::acting(nodes),
     }
 }
 

@@ -14,7 +14,16 @@ use Rattle.node.specs.Kind.{Kind, kindOf, Pair, paired}
 use Rattle.node.specs.Kind.Pair.{composed, choice}
 use Rattle.node.specs.Kind.Kind.{nothing, action, pairs, loops, unknown}
 use Rattle.node.specs.Row.{charts, stands, standsAs, children, Below}
-use Rattle.node.proofs.Ranges.{zero-is-nothing, one-and-two-are-actions, three-to-five-are-orders, six-is-the-choice, seven-to-ten-are-loops, above-ten-is-unknown, children-of-a-pair, children-of-a-loop}
+use Rattle.node.proofs.Ranges.{
+  zero-is-nothing,
+  one-and-two-are-actions,
+  three-to-five-are-orders,
+  six-is-the-choice,
+  seven-to-ten-are-loops,
+  above-ten-is-unknown,
+  children-of-a-pair,
+  children-of-a-loop,
+}
 use Rattle.room.specs.Room.{nodesIn, nodeIn, chartIn, Table, Rooted, Kept}
 use Rattle.room.proofs.Standing.{chart-at, kept-table, table-less}
 

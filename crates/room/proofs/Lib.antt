@@ -3,3 +3,4 @@ pub mod Standing
 pub mod Adding
 pub mod Apart
 pub mod Descending
+pub mod Answering

@@ -5,14 +5,28 @@ use native.Mathlib.Omega.{arith}
 use Rattle.chart.specs.Action as chart
 use Rattle.room.specs.Building.{actionOf}
 use Rattle.room.proofs.Apart.{Working}
-use Rattle.follow.proofs.Placing.{at-an-empty, at-the-unknown, at-an-action, asks-left, asks-to-carry, on-its-left, asks-right, asks-to-turn, on-its-right, asks-body, no-round, asks-to-go-round, one-round}
+use Rattle.follow.proofs.Placing.{
+  at-an-empty,
+  at-the-unknown,
+  at-an-action,
+  asks-left,
+  asks-to-carry,
+  on-its-left,
+  asks-right,
+  asks-to-turn,
+  on-its-right,
+  asks-body,
+  no-round,
+  asks-to-go-round,
+  one-round,
+}
 use Prim.Native.Nat.{ℕ, _<_, _≤_}
 use borrow.Fn.Kinds.{In}
 use borrow.Fn.PlainCycle.{Measures, is, falls, and}
-use Rattle.follow.proofs.after_round.Reads as after-round-reads
+use Rattle.rounds.proofs.after_round.Reads as after-round-reads
 use Rattle.follow.proofs.on_action.Reads as on-action-reads
-use Rattle.follow.proofs.on_left.Reads as on-left-reads
-use Rattle.follow.proofs.on_right.Reads as on-right-reads
+use Rattle.pairs.proofs.on_left.Reads as on-left-reads
+use Rattle.pairs.proofs.on_right.Reads as on-right-reads
 use Rattle.places.proofs.read.Reads as read-reads
 use Rattle.follow.proofs.execute.Reads as f
 use Rattle.follow.proofs.execute.Kinds as kinds

@@ -2,7 +2,7 @@
 -- Assumes nothing.
 use mathlib.Core.Path.{sym, ap, _∙_}
 use native.Mathlib.Omega.{arith}
-use Rattle.judge.specs.Judgment.{judgedOf}
+use Rattle.judgment.specs.Judgment.{judgedOf}
 use Rattle.judge.proofs.Answering.{too-little-answers, laid-stands, search-answers}
 use Rattle.judge.proofs.answer_in.Statement.{statement}
 use Rattle.judge.proofs.answer_in.Tie as tie

@@ -10,7 +10,7 @@ use Rattle.card.specs.Parts.{lifelinesOf, messagesOf}
 use Rattle.card.proofs.Promises.{zero-exactly-for-sound-cards}
 use Rattle.log.specs.Refusing.{refusing}
 use Rattle.log.proofs.Rules.{fine-is-in-rule, in-rule-is-short}
-use Rattle.judge.proofs.Refusing.{card-refused, log-refused, both-sound}
+use Rattle.judgment.proofs.Refusing.{card-refused, log-refused, both-sound}
 use Rattle.judge.proofs.judge.Statement.{statement}
 use Rattle.judge.proofs.judge.Tie as tie
 

@@ -3,7 +3,22 @@
 use mathlib.Core.Path.{_≡_, refl, _∙_}
 use native.Mathlib.Omega.{arith}
 use Rattle.room.proofs.Apart.{Working, left-lower, right-lower, body-lower}
-use Rattle.pruning.proofs.Left.{at-an-empty, at-the-unknown, at-another-action, at-an-action-on-it, asks-left, at-a-lost-order, asks-right-alone, at-an-alt-by-its-right, asks-right, above-right, at-a-pair, asks-body, above-body, at-a-loop}
+use Rattle.pruning.proofs.Left.{
+  at-an-empty,
+  at-the-unknown,
+  at-another-action,
+  at-an-action-on-it,
+  asks-left,
+  at-a-lost-order,
+  asks-right-alone,
+  at-an-alt-by-its-right,
+  asks-right,
+  above-right,
+  at-a-pair,
+  asks-body,
+  above-body,
+  at-a-loop,
+}
 use Prim.Native.Nat.{ℕ, _<_, _≤_}
 use borrow.Fn.Kinds.{In}
 use borrow.Fn.PlainCycle.{Measures, is, falls, and}

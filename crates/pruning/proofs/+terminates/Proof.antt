@@ -4,7 +4,16 @@ use mathlib.Core.Path.{_≡_, sym, ap}
 use native.Mathlib.Omega.{arith}
 use Rattle.chart.specs.Executing as chart
 use Rattle.room.proofs.Apart.{Reading, left-lower, right-lower, action-here}
-use Rattle.room.proofs.Descending.{terminates-descends, yes-at-empty, yes-at-a-loop, yes-at-the-unknown, alt-by-its-left, alt-by-its-right, pair-by-its-left, pair-by-its-right}
+use Rattle.room.proofs.Descending.{
+  terminates-descends,
+  yes-at-empty,
+  yes-at-a-loop,
+  yes-at-the-unknown,
+  alt-by-its-left,
+  alt-by-its-right,
+  pair-by-its-left,
+  pair-by-its-right,
+}
 use Prim.Native.Nat.{ℕ, _<_}
 use borrow.Fn.Kinds.{In}
 use borrow.Fn.PlainCycle.{Measures, is, falls, and}

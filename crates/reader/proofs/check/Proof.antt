@@ -17,7 +17,9 @@ passed-so-far c =
     record {
       one = test-passed (c .before .before .before .before .before .before .is-framed .ensures)
           (c .before .before .before .before .before .if1 .left);
-      two = test-passed (c .before .before .before .before .is-back-in-rule .ensures) (c .before .before .before .if2 .left);
+      two =
+          test-passed (c .before .before .before .before .is-back-in-rule .ensures)
+          (c .before .before .before .if2 .left);
       three = test-passed (c .before .before .are-counts-in-range .ensures) (c .before .if3 .left);
     }
 
@@ -37,7 +39,8 @@ faults-found c =
 -- What the passes over the nodes require.
 nodes-faultless : (c : tie.After-enum-told) → Faultless (c .before .before .before .before .before .nodes .result .now)
 nodes-faultless c =
-    let card = c .before .before .before .before .before .before .before .before .before .before .before .before .before .args .card .now in
+    let card = c .before .before .before .before .before .before .before .before .before .before .before .before .before
+    .args .card .now in
     let p = passed-so-far (c .before .before .before .before .before) in
     rw (c .before .before .before .before .before .nodes .ensures)
     (faultless card (back→ card (p .two)) (few-lifelines card (p .three))

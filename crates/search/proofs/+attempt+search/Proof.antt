@@ -15,7 +15,21 @@ use Rattle.room.specs.declared.Executed.the-variants.{FollowUp}
 use Rattle.room.specs.Building.{actionOf, Follows}
 use Rattle.room.proofs.Apart.{table-rooted}
 use Rattle.search.proofs.Trying.{spent-stops, exceeding-stops, fitting-goes-on, attempt-within}
-use Rattle.search.proofs.Searching.{Settled, SoFar, choices, Task, Turn, occurrences, log-ends, at-first, still-stands, no-choice-left, choice-left, choice-settles, choice-fails}
+use Rattle.search.proofs.Searching.{
+  Settled,
+  SoFar,
+  choices,
+  Task,
+  Turn,
+  occurrences,
+  log-ends,
+  at-first,
+  still-stands,
+  no-choice-left,
+  choice-left,
+  choice-settles,
+  choice-fails,
+}
 use Rattle.search.specs.declared.Ended.{Ended}
 use Rattle.search.specs.declared.Ended.the-variants.{Found, Failed, Stopped}
 use Rattle.search.proofs.Ended.{the-type}

@@ -1,0 +1,2 @@
+-- Laws of executing in a pair.
+pub mod Pairing

@@ -1,0 +1,2 @@
+-- Working definitions of executing in a pair.
+pub mod Beside

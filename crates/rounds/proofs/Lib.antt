@@ -1,0 +1,2 @@
+-- Laws of executing in a loop.
+pub mod Rounding

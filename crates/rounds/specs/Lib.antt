@@ -1,0 +1,2 @@
+-- A working definition of executing in a loop.
+pub mod Orders
