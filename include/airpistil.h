@@ -79,6 +79,32 @@ struct airpistil_judged {
 struct airpistil_judged airpistil_judge(const uint8_t *card, size_t card_len, const uint8_t *log, size_t log_len,
                                         uint32_t allowance, uint32_t *room, size_t room_len);
 
+/* The answer to a cut. */
+struct airpistil_cut_answer {
+    /*
+     * 0   the device is cut out, and the card without it is written
+     * 1 to 6  the card is refused, as above
+     * 11  the card does not declare the lifeline
+     * 12  no log of the chart avoids the lifeline
+     * 13  the output is shorter than the result
+     * The lowest number that applies is given.
+     */
+    uint32_t number;
+    /* with 4 and 5 the lowest such node, counted from 0; else 0 */
+    uint32_t place;
+    /* with 0 how many bytes were written; else 0 */
+    uint32_t length;
+};
+
+/*
+ * Cuts the device with that lifeline out of the card of card_len bytes: a card is written to out whose chart has exactly
+ * the logs of the original in which the device never acts. It has no note and the same numbers of lifelines and messages;
+ * its nodes stand left part before right part before parent. It is never longer than the card, and at most 1,026 bytes.
+ * The bytes of out behind it are as found; with any number but 0 all are. The output overlaps the card nowhere.
+ */
+struct airpistil_cut_answer airpistil_cut(const uint8_t *card, size_t card_len, uint32_t lifeline, uint8_t *out,
+                                          size_t out_len);
+
 #ifdef __cplusplus
 }
 #endif

@@ -4,9 +4,11 @@ ghost use mathlib.Core.Path.{_≡_};
 ghost use lib.ListN.{length};
 ghost use Rattle.card.specs.Checking.{checking};
 ghost use Rattle.card.specs.Note.{noteOf};
-ghost use Rattle.judge.specs.Judgment.{judgment, roomAfter};
+ghost use Rattle.judgment.specs.Judgment.{judgment, roomAfter};
+ghost use Rattle.cutting.specs.Cutting.{cutting, outAfter};
 use card::Checked;
-use judge::Judged;
+use cutting::CutAnswer;
+use judgment::Judged;
 
 // The answer to a card: number, place, nodes, depth, lifelines.
 #[no_mangle]
@@ -39,4 +41,14 @@ pub extern "C" fn airpistil_judge(
         × now (room .exit) ≡ roomAfter (now (card .entry)) (now (log .entry)) (now (room .entry)) ⌝ }
 {
     judge::judge(card, log, allowance, room)
+}
+
+// The cut of a device out of a card: number, place, length.
+#[no_mangle]
+pub extern "C" fn airpistil_cut(card: &[u8], lifeline: u32, out: &mut [u8]) -> CutAnswer
+    ensures { λ r.
+        ⌜ r ≡ cutting (now (card .entry)) lifeline (length (now (out .entry)))
+        × now (out .exit) ≡ outAfter (now (card .entry)) lifeline (now (out .entry)) ⌝ }
+{
+    cut::cut(card, lifeline, out)
 }

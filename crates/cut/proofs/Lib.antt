@@ -1,0 +1,2 @@
+-- Laws of the code that cuts: where what is left of a chart stands.
+pub mod Leaving

@@ -1,0 +1,69 @@
+// Cutting a device out of a chart card (01, "Verdicts and numbers given"): any card, lifeline and output get their one
+// answer.
+ghost use mathlib.Core.Path.{_≡_};
+ghost use Prim.Native.Nat.{_<_};
+ghost use lib.ListN.{length};
+ghost use Rattle.card.specs.Parts.{lifelinesOf};
+ghost use Rattle.card.specs.Table.{Sound};
+ghost use Rattle.cutting.specs.Cutting.{refusedAt, cutting, outAfter};
+use cutting::CutAnswer;
+use node::Node;
+use room::Pruned;
+
+// The room that a cut takes at most: the places of the card's chart, and as many for what pruning makes anew.
+const ROOM: usize = 2 * Node::NODES;
+
+fn refused(number: u32, place: u32) -> CutAnswer
+    ensures { λ r. ⌜ r ≡ refusedAt number place ⌝ }
+{
+    CutAnswer {
+        number,
+        place,
+        length: 0,
+    }
+}
+
+// The cut of a sound card, its chart laid and pruned in a room of the cut's own.
+fn cut_in(card: &[u8], lifeline: u32, room: &mut [u32], out: &mut [u8]) -> CutAnswer
+    requires { ⌜ Sound (now card) × lifeline < lifelinesOf (now card) × length (now room) ≡ 510 ⌝ }
+    ensures { λ r.
+        ⌜ r ≡ cutting (now (card .entry)) lifeline (length (now (out .entry)))
+        × now (out .exit) ≡ outAfter (now (card .entry)) lifeline (now (out .entry)) ⌝ }
+{
+    let root = laying::lay_whole(card, room);
+    let pruned = pruning::prune(room, root.place, lifeline, root.used);
+    let Pruned::Part(part) = pruned else {
+        return refused(12, 0);
+    };
+    let length = writing::card_bytes(room, part.place);
+    if out.len() < length {
+        return refused(13, 0);
+    }
+    let lifelines = parts::lifelines(card);
+    let messages = parts::messages(card);
+    writing::write_card(room, part.place, lifelines, messages, out);
+    CutAnswer {
+        number: 0,
+        place: 0,
+        length: length as u32,
+    }
+}
+
+// The cut of any bytes as a card. What is refused leaves the output as found; a cut writes its card to the first bytes
+// of the output and leaves the others as found.
+pub fn cut(card: &[u8], lifeline: u32, out: &mut [u8]) -> CutAnswer
+    ensures { λ r.
+        ⌜ r ≡ cutting (now (card .entry)) lifeline (length (now (out .entry)))
+        × now (out .exit) ≡ outAfter (now (card .entry)) lifeline (now (out .entry)) ⌝ }
+{
+    let checked = reader::check(card);
+    let number = checked.number;
+    if number != 0 {
+        return refused(number, checked.place);
+    }
+    if parts::lifelines(card) <= lifeline {
+        return refused(11, 0);
+    }
+    let mut room = [0u32; ROOM];
+    cut_in(card, lifeline, &mut room, out)
+}

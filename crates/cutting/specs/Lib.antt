@@ -1,0 +1,3 @@
+-- What a cut answers and writes.
+pub mod Cutting
+pub mod Table
