@@ -1,7 +1,7 @@
 //! The families of judgments on which both programs are asked.
 
-use generate::charts::{looped, pair};
-use generate::draft::{Draft, Node};
+use generate::charts::looped;
+use generate::draft::Draft;
 use generate::family::Family;
 use generate::logs::{Entry, Executed, MOST_ACTIONS, execute};
 use generate::random::Random;
@@ -124,36 +124,15 @@ fn empty(random: &mut Random) -> Vec<Question> {
     })
 }
 
-/// Every pair and every loop over parts of every kind.
+/// Every nesting of two kinds, with a log each.
 fn nestings(random: &mut Random) -> Vec<Question> {
     let mut questions = Vec::new();
-    for (left, right) in (0..=10).flat_map(|left| (0..=10).map(move |right| (left, right))) {
-        for kind in 3..=6 {
-            let nodes = pair(kind, part(random, left), part(random, right));
-            questions.extend(nesting(random, nodes));
-        }
-    }
-    for (kind, body) in (7..=10).flat_map(|kind| (0..=10).map(move |body| (kind, body))) {
-        let nodes = looped(kind, part(random, body));
-        questions.extend(nesting(random, nodes));
+    for draft in subjects::nestings(random) {
+        let least = random.within(0..=5);
+        let made = maybe_changed(random, draft, least);
+        questions.extend(lend(random, &made));
     }
     questions
-}
-
-/// A part of this kind over leaves.
-fn part(random: &mut Random, kind: u8) -> Vec<Node> {
-    match kind {
-        0 => vec![[0; 4]],
-        1..=2 => vec![[kind, random.below(2) as u8, 0, 0]],
-        3..=6 => pair(kind, subjects::leaf(random), subjects::leaf(random)),
-        _ => looped(kind, subjects::leaf(random)),
-    }
-}
-
-fn nesting(random: &mut Random, nodes: Vec<Node>) -> Vec<Question> {
-    let least = random.within(0..=5);
-    let made = maybe_changed(random, Draft::new(nodes, 2, 2), least);
-    lend(random, &made)
 }
 
 /// A log made by executing the chart, at least so many actions, as it is or with

@@ -6,7 +6,7 @@ use plain::Judged;
 
 use crate::families::FAMILIES;
 use crate::question::Question;
-use crate::run::{self, Tally};
+use crate::run::{self, Tally, first_difference};
 
 /// So many numbers stand before and behind each lent room, and are to stay.
 const MARGIN: usize = 4;
@@ -48,9 +48,7 @@ fn report(question: &Question, plain: &Answer, proved: &Answer) -> String {
         let zeros = room.iter().filter(|&&number| number == 0).count();
         lines.push(format!("{name}: {judged:?}, {zeros} zeros in the room"));
     }
-    let mut rooms = plain.room.iter().zip(&proved.room);
-    if let Some(position) = rooms.position(|(plain, proved)| plain != proved) {
-        let number = position as isize - MARGIN as isize;
+    if let Some(number) = first_difference(&plain.room, &proved.room, MARGIN) {
         lines.push(format!("the rooms differ first at number {number}"));
     }
     lines.join("\n")

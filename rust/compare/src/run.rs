@@ -89,6 +89,14 @@ impl Tally {
     }
 }
 
+/// Where what was lent to both programs first differs, counted from behind the
+/// margin before it.
+pub fn first_difference<T: PartialEq>(plain: &[T], proved: &[T], margin: usize) -> Option<isize> {
+    let mut both = plain.iter().zip(proved);
+    let position = both.position(|(plain, proved)| plain != proved)?;
+    Some(position as isize - margin as isize)
+}
+
 pub fn hex(bytes: &[u8]) -> String {
     let words: Vec<String> = bytes.iter().map(|byte| format!("{byte:02X}")).collect();
     words.join(" ")

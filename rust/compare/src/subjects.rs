@@ -2,7 +2,7 @@
 
 use std::ops::RangeInclusive;
 
-use generate::charts::{ALT, PAR, looped, pair};
+use generate::charts::{ALT, LOOPS, PAIRS, PAR, looped, pair};
 use generate::draft::{Draft, MOST_NODES, Node};
 use generate::logs::{Entry, MOST_ACTIONS, acting};
 use generate::random::Random;
@@ -53,6 +53,31 @@ fn with_actions(random: &mut Random, mut draw: impl FnMut(&mut Random) -> Draft)
     }
 }
 
+/// Every pair and every loop over parts of every kind.
+pub fn nestings(random: &mut Random) -> Vec<Draft> {
+    let mut charts = Vec::new();
+    for (left, right) in (0..=10).flat_map(|left| (0..=10).map(move |right| (left, right))) {
+        for kind in PAIRS {
+            charts.push(pair(kind, part(random, left), part(random, right)));
+        }
+    }
+    for kind in LOOPS {
+        charts.extend((0..=10).map(|body| looped(kind, part(random, body))));
+    }
+    let drafts = charts.into_iter().map(|nodes| Draft::new(nodes, 2, 2));
+    drafts.collect()
+}
+
+/// A part of this kind over leaves.
+fn part(random: &mut Random, kind: u8) -> Vec<Node> {
+    match kind {
+        0 => vec![[0; 4]],
+        1..=2 => vec![[kind, random.below(2) as u8, 0, 0]],
+        3..=6 => pair(kind, leaf(random), leaf(random)),
+        _ => looped(kind, leaf(random)),
+    }
+}
+
 /// Loops in one another, with pairs between them, at most 13 deep.
 pub fn nested_loops(random: &mut Random) -> Draft {
     let mut nodes = leaf(random);
@@ -77,7 +102,7 @@ fn with_leaf(random: &mut Random, nodes: Vec<Node>) -> Vec<Node> {
 }
 
 /// Mostly one of four actions; a second message is declared and never acts.
-pub fn leaf(random: &mut Random) -> Vec<Node> {
+fn leaf(random: &mut Random) -> Vec<Node> {
     let kind = random.pick(&[0, 1, 1, 1, 2, 2]);
     let lifeline = if kind == 0 { 0 } else { random.below(2) as u8 };
     vec![[kind, lifeline, 0, 0]]

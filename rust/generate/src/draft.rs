@@ -36,6 +36,17 @@ impl Draft {
         draft
     }
 
+    /// The draft of a sound card's bytes.
+    pub fn of(card: &[u8]) -> Draft {
+        let (before, trailer) = card.split_at(card.len() - TRAILER);
+        let back = u16::from_le_bytes([trailer[0], trailer[1]]);
+        let (note, records) = before.split_at(before.len() - usize::from(back));
+        let (nodes, _) = records.as_chunks();
+        let mut draft = Draft::new(nodes.to_vec(), trailer[2], trailer[3]);
+        draft.note = note.to_vec();
+        draft
+    }
+
     /// The back distance that fits the nodes.
     pub fn right_back(&self) -> u16 {
         4 * self.nodes.len() as u16

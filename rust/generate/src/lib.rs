@@ -4,6 +4,7 @@
 //! - `random`: the generator.
 //! - `draft`: a card in the making.
 //! - `charts`: the nodes of charts put together by hand.
+//! - `cuts`: charts made together with what a cut leaves of them.
 //! - `sound`: sound cards of every shape.
 //! - `faults`: every cause of the numbers 1 to 6.
 //! - `family`: a family of inputs; `cards`: the families of cards.
@@ -13,6 +14,7 @@
 
 pub mod cards;
 pub mod charts;
+pub mod cuts;
 pub mod draft;
 pub mod family;
 pub mod faults;

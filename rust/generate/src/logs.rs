@@ -32,6 +32,11 @@ pub fn acting(nodes: &[Node]) -> Vec<Entry> {
     entries.into_iter().collect()
 }
 
+/// Whether a device acts in a log, by its lifeline.
+pub fn acts(log: &[Entry], lifeline: u8) -> bool {
+    log.iter().any(|[who, _]| who / 2 == lifeline)
+}
+
 /// Executes a sound card's chart by actions drawn at random: at least so many,
 /// then until it terminates, and at most 128.
 pub fn execute(random: &mut Random, draft: &Draft, least: usize) -> Executed {

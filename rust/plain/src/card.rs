@@ -17,7 +17,7 @@ const TRAILER: usize = 6;
 /// The back distance is "a multiple of 4 from 4 to 1,020".
 const LARGEST_BACK: usize = 1020;
 /// The trailer ends with "57 4C hex".
-const MARK: [u8; 2] = [0x57, 0x4C];
+pub(crate) const MARK: [u8; 2] = [0x57, 0x4C];
 /// "number of lifelines (1 to 16)".
 const MOST_LIFELINES: u8 = 16;
 /// "number of messages (1 to 64)".

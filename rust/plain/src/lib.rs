@@ -7,7 +7,8 @@
 //! - `prune`: when a chart terminates or evades a lifeline, and pruning.
 //! - `execute`: the occurrences of an action and their follow-ups.
 //! - `judge`: the search, its figures and the verdict.
-//! - `refusal`: how a card or a log is refused.
+//! - `cut`: cutting a device out of a chart.
+//! - `refusal`: how a card, a log or a cut is refused.
 //!
 //! Words in quotation marks in the comments are those of `01-scope.md`.
 
@@ -15,6 +16,7 @@
 
 pub mod card;
 pub mod chart;
+pub mod cut;
 pub mod execute;
 pub mod judge;
 pub mod log;
@@ -22,4 +24,5 @@ pub mod prune;
 pub mod refusal;
 
 pub use card::{Checked, check, note};
+pub use cut::{CutAnswer, cut};
 pub use judge::{Judged, judge};

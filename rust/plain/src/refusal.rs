@@ -1,6 +1,6 @@
-//! How a card or a log is refused.
+//! How a card, a log or a cut is refused.
 
-/// Number and place by which a card or a log is refused.
+/// Number and place by which a card, a log or a cut is refused.
 #[derive(Debug, PartialEq, Eq, Clone, Copy)]
 pub struct Refusal {
     pub number: u32,

@@ -49,11 +49,6 @@ fn ample(nodes: Vec<Node>, text: &str) -> Judged {
     lent(nodes, text, AMPLE, USABLE)
 }
 
-/// S of the document: strict(0!0, 1?0).
-fn s() -> Vec<Node> {
-    pair(STRICT, emission(0, 0), reception(1, 0))
-}
-
 /// K of the document: alt(S, 1!1).
 fn k() -> Vec<Node> {
     pair(ALT, s(), emission(1, 1))
@@ -228,14 +223,14 @@ fn pruned(left: Vec<Node>) -> u32 {
 #[test]
 fn places_of_pruning() {
     let (here, away) = (emission(0, 0), emission(1, 0));
-    for kind in [STRICT, SEQ, PAR, ALT] {
+    for kind in PAIRS {
         assert_eq!(pruned(pair(kind, away.clone(), empty())), 1);
         let deep = pair(kind, away.clone(), pair(kind, empty(), away.clone()));
         assert_eq!(pruned(deep), 2);
     }
     assert_eq!(pruned(pair(ALT, here.clone(), away.clone())), 0);
     assert_eq!(pruned(pair(ALT, s(), pair(PAR, empty(), away.clone()))), 1);
-    for kind in [STRICT_LOOP, HEAD_LOOP, WEAK_LOOP, PARALLEL_LOOP] {
+    for kind in LOOPS {
         assert_eq!(pruned(looped(kind, away.clone())), 1);
         assert_eq!(pruned(looped(kind, here.clone())), 1);
         assert_eq!(pruned(looped(kind, s())), 1);
@@ -274,8 +269,7 @@ fn the_four_loops_differ() {
         let found = ample(looped(kind, body), text);
         (found.number, found.place)
     };
-    let kinds = [STRICT_LOOP, HEAD_LOOP, WEAK_LOOP, PARALLEL_LOOP];
-    let verdicts = |body: &[Node], text| kinds.map(|kind| rounds(kind, body.to_vec(), text));
+    let verdicts = |body: &[Node], text| LOOPS.map(|kind| rounds(kind, body.to_vec(), text));
     let (yes, no) = ((20, 4), (22, 1));
     // A second round begins before the first one ends: on another lifeline,
     // on the lifeline on which the first one waits, on the only lifeline.

@@ -22,6 +22,14 @@ struct JudgeAnswer {
     places: u32,
 }
 
+/// The answer to a cut, likewise.
+#[repr(C)]
+struct CutAnswer {
+    number: u32,
+    place: u32,
+    length: u32,
+}
+
 unsafe extern "C" {
     fn airpistil_check(card: *const u8, len: usize) -> CheckAnswer;
     fn airpistil_note(card: *const u8, len: usize) -> usize;
@@ -34,6 +42,13 @@ unsafe extern "C" {
         room: *mut u32,
         room_len: usize,
     ) -> JudgeAnswer;
+    fn airpistil_cut(
+        card: *const u8,
+        card_len: usize,
+        lifeline: u32,
+        out: *mut u8,
+        out_len: usize,
+    ) -> CutAnswer;
 }
 
 /// Checks a card.
@@ -75,5 +90,25 @@ pub fn judge(card: &[u8], log: &[u8], allowance: u32, room: &mut [u32]) -> Judge
         place: answer.place,
         steps: answer.steps,
         places: answer.places,
+    }
+}
+
+/// Cuts a device out of a card's chart and writes the card of what remains.
+pub fn cut(card: &[u8], lifeline: u32, out: &mut [u8]) -> plain::CutAnswer {
+    // Pointers and lengths are those of slices that live through the call, and
+    // the output, the only one written to, is borrowed for it alone.
+    let answer = unsafe {
+        airpistil_cut(
+            card.as_ptr(),
+            card.len(),
+            lifeline,
+            out.as_mut_ptr(),
+            out.len(),
+        )
+    };
+    plain::CutAnswer {
+        number: answer.number,
+        place: answer.place,
+        length: answer.length,
     }
 }

@@ -3,7 +3,7 @@
 use std::fs;
 use std::path::{Path, PathBuf};
 
-use crate::measure::{ROUNDS, Work, judgment};
+use crate::measure::{ROUNDS, Work, heading, judgment, row};
 
 /// The program's allowance.
 const ALLOWANCE: u32 = 1_000_000;
@@ -23,27 +23,12 @@ pub fn run(directories: Vec<PathBuf>) -> Result<(), String> {
         return Ok(());
     }
     println!("nanoseconds per judgment, less is faster, best of {ROUNDS} rounds");
-    println!(
-        "{:<32} {:>6} {:>8} {:>12} {:>12} {:>13}",
-        "directory", "number", "steps", "plain", "proved", "proved/plain"
-    );
+    heading("directory", "steps");
     for directory in directories {
-        measure(&read(&directory)?)?;
+        let work = read(&directory)?;
+        let (answer, times) = judgment(&work)?;
+        row(&work.name, answer.number, answer.steps, &times);
     }
-    Ok(())
-}
-
-fn measure(work: &Work) -> Result<(), String> {
-    let (answer, times) = judgment(work)?;
-    println!(
-        "{:<32} {:>6} {:>8} {:>12.1} {:>12.1} {:>13.3}",
-        work.name,
-        answer.number,
-        answer.steps,
-        times.plain,
-        times.proved,
-        times.proved / times.plain
-    );
     Ok(())
 }
 

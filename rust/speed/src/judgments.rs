@@ -5,7 +5,7 @@ use generate::draft::{Draft, Node};
 use generate::logs::{Entry, MOST_ACTIONS, execute};
 use generate::random::Random;
 
-use crate::measure::{ROUNDS, Work, judgment};
+use crate::measure::{ROUNDS, Work, heading, judgment};
 
 /// Draws the order in which the actions of a seq are executed.
 const SEED: u64 = 1;
@@ -13,10 +13,7 @@ const SEED: u64 = 1;
 /// Prints the steps a second for each workload.
 pub fn run() -> Result<(), String> {
     println!("steps a second, more is faster, best of {ROUNDS} rounds");
-    println!(
-        "{:<32} {:>6} {:>8} {:>12} {:>12} {:>13}",
-        "workload", "number", "steps", "plain", "proved", "proved/plain"
-    );
+    heading("workload", "steps");
     for work in [long_seq(), nested_loops(), ambiguous_par()] {
         let (answer, times) = judgment(&work)?;
         let rate = |nanoseconds: f64| f64::from(answer.steps) * 1e9 / nanoseconds;

@@ -9,6 +9,7 @@
 #![forbid(unsafe_code)]
 
 mod cards;
+mod cuts;
 mod demo;
 mod judgments;
 mod measure;
@@ -20,15 +21,21 @@ fn main() -> ExitCode {
     let directories: Vec<PathBuf> = std::env::args().skip(1).map(PathBuf::from).collect();
     cards::run();
     println!();
-    let measured = judgments::run().and_then(|()| {
-        println!();
-        demo::run(directories)
-    });
-    match measured {
+    match measure_work(directories) {
         Ok(()) => ExitCode::SUCCESS,
         Err(why) => {
             eprintln!("{why}");
             ExitCode::FAILURE
         }
     }
+}
+
+/// Measures judgments and cuts; the error says that the libraries differ, or what
+/// cannot be read.
+fn measure_work(directories: Vec<PathBuf>) -> Result<(), String> {
+    judgments::run()?;
+    println!();
+    demo::run(directories)?;
+    println!();
+    cuts::run()
 }

@@ -7,7 +7,7 @@ use plain::Judged;
 
 /// The best round counts: it is the one least disturbed by other work.
 pub const ROUNDS: usize = 9;
-/// Nanoseconds that a round of judgments takes at least.
+/// Nanoseconds that a round of judgments or cuts takes at least.
 const LEAST_ROUND: f64 = 20e6;
 /// The numbers of room that are lent.
 const ROOM: usize = 16_384;
@@ -40,6 +40,20 @@ pub fn best(mut plain: impl FnMut(), mut proved: impl FnMut()) -> Times {
     best
 }
 
+/// Nanoseconds of one piece of work, which a round does many times.
+pub fn one(mut plain: impl FnMut(), mut proved: impl FnMut()) -> Times {
+    let times = (LEAST_ROUND / time(&mut plain)).ceil().max(1.0);
+    let round = best(|| often(times, &mut plain), || often(times, &mut proved));
+    Times {
+        plain: round.plain / times,
+        proved: round.proved / times,
+    }
+}
+
+fn often(times: f64, work: &mut impl FnMut()) {
+    (0..times as usize).for_each(|_| work());
+}
+
 fn time(work: &mut impl FnMut()) -> f64 {
     let start = Instant::now();
     work();
@@ -56,25 +70,32 @@ pub fn judgment(work: &Work) -> Result<(Judged, Times), String> {
         let name = &work.name;
         return Err(format!("{name}: plain gives {answer:?}, proved {proved:?}"));
     }
-    let once = time(&mut || judge_often(work, plain::judge, 1));
-    let times = (LEAST_ROUND / once).ceil().max(1.0);
-    let round = best(
-        || judge_often(work, plain::judge, times as usize),
-        || judge_often(work, proved::judge, times as usize),
-    );
-    let one = Times {
-        plain: round.plain / times,
-        proved: round.proved / times,
-    };
-    Ok((answer, one))
+    let times = one(judging(work, plain::judge), judging(work, proved::judge));
+    Ok((answer, times))
 }
 
 type Judge = fn(&[u8], &[u8], u32, &mut [u32]) -> Judged;
 
-fn judge_often(work: &Work, judge: Judge, times: usize) {
+/// One judgment with a room of its own.
+fn judging(work: &Work, judge: Judge) -> impl FnMut() {
     let mut room = vec![0; ROOM];
-    for _ in 0..times {
+    move || {
         let work = black_box(work);
         black_box(judge(&work.card, &work.log, work.allowance, &mut room));
     }
+}
+
+/// Prints the heading of a table, of which these columns differ.
+pub fn heading(first: &str, figure: &str) {
+    println!(
+        "{first:<32} {:>6} {figure:>8} {:>12} {:>12} {:>13}",
+        "number", "plain", "proved", "proved/plain"
+    );
+}
+
+/// Prints a row of it, with the nanoseconds of both.
+pub fn row(name: &str, number: u32, figure: u32, times: &Times) {
+    let Times { plain, proved } = times;
+    let ratio = proved / plain;
+    println!("{name:<32} {number:>6} {figure:>8} {plain:>12.1} {proved:>12.1} {ratio:>13.3}");
 }

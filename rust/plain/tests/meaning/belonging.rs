@@ -8,7 +8,7 @@
 use plain::chart::{Action, Chart, Loop, Pair};
 
 /// A set of lifelines, by bits.
-type Lifelines = u16;
+pub type Lifelines = u16;
 
 /// Whether the log is one of the chart's.
 pub fn belongs(chart: &Chart, log: &[Action]) -> bool {

@@ -1,12 +1,15 @@
 //! Verdicts held against "Which logs belong to a chart", which knows neither
-//! execution nor search: all short logs of many small charts are judged.
+//! execution nor search: all short logs of many small charts are judged. `cuts`
+//! holds cuts against it.
 
 mod belonging;
+mod cuts;
 mod trace_set;
 
 use std::rc::Rc;
 
 use belonging::{begins, belongs};
+use generate::charts::LOOPS;
 use generate::draft::{Draft, Node};
 use generate::logs::{Entry, acting};
 use generate::random::Random;
@@ -17,8 +20,6 @@ use trace_set::logs;
 
 /// Actions on one lifeline are ordered, those on two are not.
 const LIFELINES: u8 = 2;
-/// The kinds of loops.
-const LOOPS: [u8; 4] = [7, 8, 9, 10];
 
 /// A small chart and its card.
 struct Subject {
@@ -45,11 +46,11 @@ impl Subject {
         }
     }
 
-    fn random(random: &mut Random) -> Subject {
+    fn random(random: &mut Random, lifelines: u8) -> Subject {
         let size = random.within(1..=9);
         let messages = random.within(1..=2) as u8;
-        let nodes = sound::nodes(random, size, size, LIFELINES, messages);
-        Subject::new(&Draft::new(nodes, LIFELINES, messages))
+        let nodes = sound::nodes(random, size, size, lifelines, messages);
+        Subject::new(&Draft::new(nodes, lifelines, messages))
     }
 
     fn read(&self, log: &[Entry]) -> Vec<Action> {
@@ -141,7 +142,7 @@ fn verdicts_are_those_of_the_meaning() {
     let mut random = Random::new(1);
     let mut tally = Tally::new();
     for _ in 0..1200 {
-        let subject = Subject::random(&mut random);
+        let subject = Subject::random(&mut random, LIFELINES);
         judge_all(&subject, &mut Vec::new(), 5, &mut random, &mut tally);
     }
     let least = tally.accepted.min(tally.short).min(tally.deviates);
