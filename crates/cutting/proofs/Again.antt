@@ -16,7 +16,13 @@ use Rattle.card.specs.Table.{Sound, lifelines}
 use Rattle.card.proofs.Deciding.{same-lifelines, at-least-six}
 use Rattle.writing.specs.Cards.{cardOf}
 use Rattle.writing.specs.Rows.{written}
-use Rattle.writing.proofs.Read.{row, declares-lifelines, declares-messages, has-its-chart, written-is-sound}
+use Rattle.writing.proofs.Read.{
+  nodes-as-written,
+  declares-lifelines,
+  declares-messages,
+  has-its-chart,
+  written-is-sound,
+}
 use Rattle.cutting.specs.Cutting.{leftOver, cutCard, cutting, outAfter}
 use Rattle.cutting.specs.Table.{NotDeclared, Cuttable}
 use Rattle.cutting.proofs.Holding.{left-over-held}
@@ -39,7 +45,8 @@ module _ (card : List ℕ) (lifeline long : ℕ) (all : Cuttable card lifeline l
 
   pub cut-in-order : cardRow cutOff ≡ written 0 (cardChart cutOff)
   cut-in-order =
-      row (lifelinesOf card) (messagesOf card) (leftOver card lifeline) ∙ ap (written 0) (sym cut-has-its-chart)
+      nodes-as-written (lifelinesOf card) (messagesOf card) (leftOver card lifeline)
+      ∙ ap (written 0) (sym cut-has-its-chart)
 
   pub as-many-lifelines : lifelinesOf cutOff ≡ lifelinesOf card
   as-many-lifelines = declares-lifelines (lifelinesOf card) (messagesOf card) (leftOver card lifeline)

@@ -27,11 +27,12 @@ use Rattle.card.proofs.Deciding.{at-least-six}
 use Rattle.card.proofs.Relied.{length-nodes}
 use Rattle.card.proofs.Telling.{rule, sound→faultless, sound→once}
 use Rattle.card.proofs.Charted.{as-many-nodes}
-use Rattle.writing.proofs.Read.{no-note, length-card}
+use Rattle.writing.proofs.Read.{no-note}
 use Rattle.cutting.specs.declared.CutAnswer.{CutAnswer}
 use Rattle.cutting.specs.Cutting.{leftOver, cutCard, refusal, returned, cutting, leaves, outAfter}
 use Rattle.cutting.specs.Table.{NotDeclared, NeverAvoided, TooShort, Cuttable, CutTold}
 use Rattle.cutting.specs.Table.CutTold.{spoiled, eleven, twelve, thirteen, made}
+use Rattle.cutting.proofs.Refusing.{length-of-the-cut}
 use Rattle.cutting.proofs.Telling.{made-when, cut-told→answer, cut-answer→told}
 
 -- The numbers of a card are 0 to 6.
@@ -81,7 +82,7 @@ cut-is-no-longer card lifeline s =
     let inside = rule card trailed in
     omega (
       arith,
-      length-card (lifelinesOf card) (messagesOf card) (leftOver card lifeline),
+      length-of-the-cut card lifeline,
       pruned-no-larger (cardChart card) lifeline,
       as-many-nodes (nodesOf card) (sound→faultless card s) (sound→once card s),
       length-nodes card inside,

@@ -22,6 +22,10 @@ use Rattle.writing.specs.Cards.{cardBytes}
 use Rattle.writing.proofs.Read.{length-card}
 use Rattle.cutting.specs.Cutting.{leftOver, cutCard, refusedAt, returned, cutting, outAfter, Cuts}
 
+pub length-of-the-cut : (card : List ℕ) (lifeline : ℕ)
+    → length (cutCard card lifeline) ≡ cardBytes (leftOver card lifeline)
+length-of-the-cut card lifeline = length-card (lifelinesOf card) (messagesOf card) (leftOver card lifeline)
+
 module _ (card : List ℕ) (lifeline : ℕ) (out : List ℕ) where
   -- The card was refused: 1 to 6.
   pub card-refused : (checked : Checked) → checked ≡ checking card → checked .number ≢ 0
@@ -43,7 +47,7 @@ module _ (card : List ℕ) (lifeline : ℕ) (out : List ℕ) where
           rw (sound→nothing-found card sound, lt-ltb lifeline (lifelinesOf card) declared, e) (refl, refl)
 
       long : length (cutCard card lifeline) ≡ cardBytes (leftOver card lifeline)
-      long = length-card (lifelinesOf card) (messagesOf card) (leftOver card lifeline)
+      long = length-of-the-cut card lifeline
 
       module _ (evading : evades (cardChart card) lifeline ≡ true) where
         -- 13.

@@ -14,7 +14,7 @@ use lib.ListN.{length, drop}
 use borrow.Author.Tests.{ltb-true, ltb-false}
 use Rattle.chart.specs.Executing.{evades}
 use Rattle.chart.proofs.Agreement.{evades-iff-some-published-log-avoids}
-use Rattle.card.specs.Parts.{lifelinesOf, messagesOf}
+use Rattle.card.specs.Parts.{lifelinesOf}
 use Rattle.card.specs.Nodes.{cardChart}
 use Rattle.card.specs.Checking.{checking}
 use Rattle.card.specs.Table.{Sound}
@@ -27,8 +27,14 @@ use Rattle.cutting.specs.Cutting.{leftOver, cutCard, refusedAt, cutting,
 use Rattle.cutting.specs.Table.{NotDeclared, Avoided, NeverAvoided, TooShort, Cuttable, CutTold}
 use Rattle.cutting.specs.Table.CutTold.{spoiled, eleven, twelve, thirteen, made}
 use Rattle.writing.specs.Cards.{cardBytes}
-use Rattle.writing.proofs.Read.{length-card}
-use Rattle.cutting.proofs.Refusing.{card-refused, not-declared, never-avoided, too-short, card-made}
+use Rattle.cutting.proofs.Refusing.{
+  card-refused,
+  not-declared,
+  never-avoided,
+  too-short,
+  card-made,
+  length-of-the-cut,
+}
 
 module _ (card : List ℕ) (lifeline : ℕ) where
   -- Whether the chart evades the lifeline decides whether no log avoids it.
@@ -76,7 +82,7 @@ module _ (card : List ℕ) (lifeline : ℕ) where
       undeclared h = ltb-false lifeline (lifelinesOf card) (if-so (declared-decided sound) h)
 
     long : length (cutCard card lifeline) ≡ cardBytes (leftOver card lifeline)
-    long = length-card (lifelinesOf card) (messagesOf card) (leftOver card lifeline)
+    long = length-of-the-cut card lifeline
 
     -- Nothing refuses the cut: the card is written.
     pub made-when :

@@ -1,7 +1,7 @@
-// What a cut returns. What it is for the bytes of a card is said in specs/, and what is promised of it in
+// The answer to a cut. What it is for the bytes of a card is said in specs/, and what is promised of it in
 // proofs/Promises.antt; the code that cuts is the crate `cut`.
 
-// What a cut returns: number 0, place 0 and the length of the card that was written; or the number and place of a
+// Number 0, place 0 and the length of the card that was written; or the number and place of a
 // refusal, and no length.
 #[repr(C)]
 pub struct CutAnswer {

@@ -133,12 +133,12 @@ module _ (lifelines messages : ℕ) (c : Chart) where
       ∙ take-at records trailer (trailerAt card - 0) (omega (arith, length-of-records))
 
   -- The nodes stand in the order in which they were written.
-  pub row : cardRow card ≡ written 0 c
-  row = ap rowOf nodes ∙ records-read-back (written 0 c)
+  pub nodes-as-written : cardRow card ≡ written 0 c
+  nodes-as-written = ap rowOf nodes ∙ records-read-back (written 0 c)
 
   -- The chart is the one that was written.
   pub has-its-chart : cardChart card ≡ c
-  has-its-chart = ap chart row ∙ written-is-its-chart c
+  has-its-chart = ap chart nodes-as-written ∙ written-is-its-chart c
 
   count : countOf (nodesOf card) ≡ size c
   count = ap countOf nodes ∙ record-count (written 0 c) ∙ length-written 0 c
@@ -203,7 +203,7 @@ module _ (lifelines messages : ℕ) (c : Chart) where
         none→fine (misuseOf (cardRow card)) (countOf (nodesOf card) - 1)
         (λ j h.
         let once : uses (cardRow card) j ≡ 1
-        = ap (λ r. uses r j) row ∙ written-uses-each-once c j (omega (arith, count)) in
+        = ap (λ r. uses r j) nodes-as-written ∙ written-uses-each-once c j (omega (arith, count)) in
         ap (λ ok. cond ok 0 5) (eq-eqb (uses (cardRow card) j) 1 once))
 
     -- A card that holds its chart is sound.
