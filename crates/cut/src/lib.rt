@@ -35,13 +35,13 @@ fn cut_in(card: &[u8], lifeline: u32, room: &mut [u32], out: &mut [u8]) -> CutAn
     let Pruned::Part(part) = pruned else {
         return refused(12, 0);
     };
-    let length = writing::card_bytes(room, part.place);
+    let length = writer::card_bytes(room, part.place);
     if out.len() < length {
         return refused(13, 0);
     }
     let lifelines = parts::lifelines(card);
     let messages = parts::messages(card);
-    writing::write_card(room, part.place, lifelines, messages, out);
+    writer::write_card(room, part.place, lifelines, messages, out);
     CutAnswer {
         number: 0,
         place: 0,

@@ -94,8 +94,8 @@ fn ask(room: &mut [u32], root: Root)
     tell(
         root.used,
         depth(room, place),
-        pruning::terminates(room, place),
-        pruning::evades(room, place, 1),
+        asking::terminates(room, place),
+        asking::evades(room, place, 1),
     );
     let pruned = pruning::prune(room, place, 1, root.used);
     let Pruned::Part(part) = pruned else {

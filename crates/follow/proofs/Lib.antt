@@ -1,4 +1,3 @@
 -- Laws of executing in a room.
 pub mod Occurring
 pub mod Placing
-pub mod Onward

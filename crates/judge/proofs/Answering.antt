@@ -27,8 +27,8 @@ use Rattle.laying.proofs.Onward.{
   whole-is-rooted,
   whole-stands,
 }
-use Rattle.search.specs.declared.Ended.{Ended}
-use Rattle.search.specs.Ending.{endingOf, Searches}
+use Rattle.searching.specs.declared.Ended.{Ended}
+use Rattle.searching.specs.Ending.{endingOf, Searches}
 
 -- A chart that exceeds the room, and one that does not.
 exceeding-answer : (c : Chart) (t : Log) (allowance room : ℕ) → room < size c → answer c t allowance room ≡ halted 10 0

@@ -8,13 +8,13 @@ ghost use Rattle.chart.specs.Lending.{unaccepted, told, answer};
 ghost use Rattle.card.specs.Nodes.{cardChart};
 ghost use Rattle.card.specs.Table.{Sound};
 ghost use Rattle.log.specs.Bytes.{logOf};
-ghost use Rattle.search.specs.Ending.{endingOf, leftOf};
+ghost use Rattle.searching.specs.Ending.{endingOf, leftOf};
 ghost use Rattle.judgment.specs.Judgment.{usable, judgedOf, refusedAt, judgment, roomAfter};
 use card::Finding;
 use judgment::Judged;
 use laying::Laid;
 use node::Node;
-use search::Ended;
+use searching::Ended;
 
 // A refusal has no figures, and neither has a chart that exceeds the room.
 fn refused(number: u32, place: u32) -> Judged

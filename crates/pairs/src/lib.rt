@@ -37,7 +37,7 @@ fn right_of_strict(room: &[u32], left: u32, k: u32, right: Executed) -> Executed
         → Turns (now (room .entry)) k right (onRight strict (chartIn (now (room .entry)) left) d)
         (now (room .entry)) r) ⌝ }
 {
-    if pruning::terminates(room, left) {
+    if asking::terminates(room, left) {
         right
     } else {
         Executed::Missing(k)
@@ -53,7 +53,7 @@ fn right_of_seq(room: &mut [u32], left: u32, lifeline: u32, k: u32, right: Execu
         (now (room .exit)) r ⌝ }
 {
     let Executed::FollowUp(x) = right else {
-        if pruning::evades(room, left, lifeline) {
+        if asking::evades(room, left, lifeline) {
             return right;
         }
         return Executed::Missing(k);

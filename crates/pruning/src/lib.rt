@@ -1,49 +1,12 @@
-// Terminating, evading and pruning (01, "How a log is executed"). Each descends the room by recursion: the place number
-// falls at each call.
+// Pruning (01, "How a log is executed"), by recursion down the room: the place number falls at each call.
 ghost use mathlib.Core.Path.{_≡_};
 ghost use Prim.Native.Nat.{_<_};
 ghost use Rattle.room.specs.Room.{chartIn, Table, Rooted};
 ghost use Rattle.room.specs.Building.{Prunes};
 ghost use Rattle.pruning.specs.Sides.{above, pairOf, pairIn, loopOf, loopIn};
-ghost use Rattle.chart.specs.Executing as chart;
 use node::Node;
 use room::Pruned;
 use room::Root;
-
-// Whether a part terminates.
-pub fn terminates(room: &[u32], place: u32) -> bool
-    requires { ⌜ Rooted (now room) place ⌝ }
-    ensures { λ r. ⌜ r ≡ chart.terminates (chartIn (now (room .entry)) place) ⌝ }
-{
-    let node = places::read(room, place);
-    let kind = node.kind;
-    match kind {
-        Node::EMPTY => true,
-        Node::EMISSION..=Node::RECEPTION => false,
-        Node::STRICT..=Node::PAR => terminates(room, node.a) && terminates(room, node.b),
-        Node::ALT => terminates(room, node.a) || terminates(room, node.b),
-        Node::STRICT_LOOP..=Node::PAR_LOOP => true,
-        _ => true,
-    }
-}
-
-// Whether a part evades a lifeline.
-pub fn evades(room: &[u32], place: u32, lifeline: u32) -> bool
-    requires { ⌜ Rooted (now room) place ⌝ }
-    ensures { λ r. ⌜ r ≡ chart.evades (chartIn (now (room .entry)) place) lifeline ⌝ }
-{
-    let node = places::read(room, place);
-    let kind = node.kind;
-    match kind {
-        Node::EMPTY => true,
-        Node::EMISSION..=Node::RECEPTION => node.a != lifeline,
-        Node::STRICT..=Node::PAR => evades(room, node.a, lifeline)
-            && evades(room, node.b, lifeline),
-        Node::ALT => evades(room, node.a, lifeline) || evades(room, node.b, lifeline),
-        Node::STRICT_LOOP..=Node::PAR_LOOP => true,
-        _ => true,
-    }
-}
 
 // What is left of a pair whose left side is left over, by what is left of its right side: of an alt either side, of any
 // other pair both or nothing.

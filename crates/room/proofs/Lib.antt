@@ -4,3 +4,4 @@ pub mod Adding
 pub mod Apart
 pub mod Descending
 pub mod Answering
+pub mod Onward

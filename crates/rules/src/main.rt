@@ -106,9 +106,9 @@ fn write_line(room: &[u32], place: u32, used: u32)
     write_chart(room, place);
     write_figures(
         used,
-        pruning::terminates(room, place),
-        pruning::evades(room, place, 0),
-        pruning::evades(room, place, 1),
+        asking::terminates(room, place),
+        asking::evades(room, place, 0),
+        asking::evades(room, place, 1),
     );
 }
 

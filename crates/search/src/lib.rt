@@ -8,29 +8,11 @@ ghost use Rattle.chart.specs.Executing.{terminates};
 ghost use Rattle.room.specs.Room.{chartIn, Table, Rooted};
 ghost use Rattle.room.specs.Building.{Held};
 ghost use Rattle.log.specs.Bytes.{logOf};
-ghost use Rattle.search.specs.Ending.{Searches, Attempts};
-ghost use Rattle.search.specs.declared.Ended.the-variants.{Found, Failed};
+ghost use Rattle.searching.specs.Ending.{Searches, Attempts};
+ghost use Rattle.searching.specs.declared.Ended.the-variants.{Found, Failed};
 use room::Executed;
 use room::Root;
-
-// How a search ends, each with the allowance left and the most places in use: it found an accepting path; or every
-// choice failed, with the most actions executed on one path; or it was stopped, with its number.
-pub enum Ended {
-    Found {
-        left: u32,
-        places: u32,
-    },
-    Failed {
-        deepest: u32,
-        left: u32,
-        places: u32,
-    },
-    Stopped {
-        number: u32,
-        left: u32,
-        places: u32,
-    },
-}
+use searching::Ended;
 
 fn larger(x: u32, y: u32) -> u32
     ensures { λ r. ⌜ r ≡ max x y ⌝ }
@@ -44,7 +26,7 @@ fn at_end(room: &[u32], place: u32, left: u32, places: u32) -> Ended
     ensures { λ r.
         ⌜ r ≡ cond (terminates (chartIn (now (room .entry)) place)) (Found left places) (Failed 0 left places) ⌝ }
 {
-    if pruning::terminates(room, place) {
+    if asking::terminates(room, place) {
         return Ended::Found { left, places };
     }
     Ended::Failed {

@@ -1,7 +1,3 @@
--- Laws of charts that are written down: as a row of nodes, as the bytes of a card, and part by part out of a room.
+-- Laws of charts that are written down, as a row of nodes and as the bytes of a card.
 pub mod Nodes
 pub mod Read
-pub mod Storing
-pub mod Counting
-pub mod Putting
-pub mod Whole

@@ -1,4 +1,3 @@
 -- A chart written down, as a row of nodes and as a card.
 pub mod Rows
 pub mod Cards
-pub mod Outputs

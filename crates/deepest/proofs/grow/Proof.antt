@@ -7,7 +7,7 @@ use lib.ListN.{length}
 use Rattle.chart.specs.Executing.{Made, follows}
 use Rattle.room.specs.Room.{chartIn, Table, Rooted}
 use Rattle.room.specs.Building.{actionOf}
-use Rattle.follow.proofs.Onward.{still-a-table, still-rooted, follow-up-is-rooted, follow-up-is-below}
+use Rattle.room.proofs.Onward.{still-a-table, still-rooted, follow-up-is-rooted, follow-up-is-below}
 use Rattle.deepest.proofs.grow.Statement.{statement}
 use Rattle.deepest.proofs.grow.Tie as tie
 

@@ -9,7 +9,7 @@ use Rattle.room.specs.Room.{chartIn, Table, Rooted}
 use Rattle.room.specs.Building.{actionOf}
 use Rattle.room.proofs.Standing.{kept-table}
 use Rattle.room.proofs.Apart.{kept-rooted}
-use Rattle.follow.proofs.Onward.{follow-up-is-rooted, follow-up-is-below}
+use Rattle.room.proofs.Onward.{follow-up-is-rooted, follow-up-is-below}
 use Rattle.rules.proofs.walk.Statement.{statement}
 use Rattle.rules.proofs.walk.Tie as tie
 

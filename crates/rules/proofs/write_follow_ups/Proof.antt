@@ -9,7 +9,7 @@ use Rattle.room.specs.Building.{actionOf}
 use Rattle.room.proofs.Standing.{kept-self, kept-table, kept-then}
 use Rattle.room.proofs.Apart.{kept-rooted}
 use Rattle.room.proofs.Answering.{answer-keeps}
-use Rattle.follow.proofs.Onward.{follow-up-is-rooted}
+use Rattle.room.proofs.Onward.{follow-up-is-rooted}
 use Rattle.rules.proofs.write_follow_ups.Statement.{statement}
 use Rattle.rules.proofs.write_follow_ups.Tie as tie
 

@@ -14,8 +14,8 @@ use Rattle.log.proofs.Actions.{first-action, as-many-actions}
 use Rattle.room.specs.declared.Executed.the-variants.{FollowUp}
 use Rattle.room.specs.Building.{actionOf, Follows}
 use Rattle.room.proofs.Apart.{table-rooted}
-use Rattle.search.proofs.Trying.{spent-stops, exceeding-stops, fitting-goes-on, attempt-within}
-use Rattle.search.proofs.Searching.{
+use Rattle.searching.proofs.Trying.{spent-stops, exceeding-stops, fitting-goes-on, attempt-within}
+use Rattle.searching.proofs.Searching.{
   Settled,
   SoFar,
   choices,
@@ -30,10 +30,10 @@ use Rattle.search.proofs.Searching.{
   choice-settles,
   choice-fails,
 }
-use Rattle.search.specs.declared.Ended.{Ended}
-use Rattle.search.specs.declared.Ended.the-variants.{Found, Failed, Stopped}
-use Rattle.search.proofs.Ended.{the-type}
-use Rattle.search.specs.Ending.{Attempts}
+use Rattle.searching.specs.declared.Ended.{Ended}
+use Rattle.searching.specs.declared.Ended.the-variants.{Found, Failed, Stopped}
+use Rattle.searching.proofs.Ended.{the-type}
+use Rattle.searching.specs.Ending.{Attempts}
 use Rattle.search.proofs.attempt.Reads as attempt
 use Rattle.search.proofs.attempt.Kinds as attempt-kinds
 use Rattle.search.proofs.+attempt+search.Lts-attempt as attempt-lts

@@ -5,16 +5,16 @@ use native.Mathlib.Omega.{arith}
 use Rattle.chart.specs.Chart.{size}
 use Rattle.room.specs.Room.{chartIn}
 use Rattle.room.proofs.Apart.{Reading, left-lower, right-lower, body-lower}
-use Rattle.writing.proofs.Counting.{a-leaf-is-one, the-unknown-is-one, a-pair-is-one-more, a-loop-is-one-more}
+use Rattle.writer.proofs.Counting.{a-leaf-is-one, the-unknown-is-one, a-pair-is-one-more, a-loop-is-one-more}
 use Prim.Native.Nat.{ℕ, _<_, _≤_}
 use borrow.Fn.Kinds.{In}
 use borrow.Fn.PlainCycle.{Measures, is, falls, and}
 use Rattle.places.proofs.read.Reads as read-reads
-use Rattle.writing.proofs.count.Reads as f
-use Rattle.writing.proofs.count.Kinds as kinds
-use Rattle.writing.proofs.+count.Lts-count as lts
-use Rattle.writing.proofs.+count.{statement}
-use Rattle.writing.proofs.+count.Tie.{close}
+use Rattle.writer.proofs.count.Reads as f
+use Rattle.writer.proofs.count.Kinds as kinds
+use Rattle.writer.proofs.+count.Lts-count as lts
+use Rattle.writer.proofs.+count.{statement}
+use Rattle.writer.proofs.+count.Tie.{close}
 
 -- The place number falls at each call.
 abbrev μ : Measures 1 kinds.ps ℕ

@@ -10,12 +10,12 @@ use lib.Seq.{sets, sets-eq}
 use Rattle.chart.specs.Chart.{Chart}
 use Rattle.chart.specs.Chart.Chart.{empty, act, alt, pair, loop}
 use Rattle.card.specs.Meaning.{Declared}
 use Rattle.writing.specs.Rows.{written}
 use Rattle.writing.specs.Cards.{recordsOf, trailerOf, recordBytes, cardBytes, cardOf, Holds}
-use Rattle.writing.specs.Outputs.{Writable, Writes}
+use Rattle.writer.specs.Outputs.{Writable, Writes}
 use Rattle.writing.proofs.Nodes.{length-written}
 use Rattle.writing.proofs.Read.{length-records, length-card}
-use Rattle.writing.proofs.Putting.{sets-append}
+use Rattle.writer.proofs.Putting.{sets-append}
 
 -- Nodes from the first byte on and the trailer behind them are the card, and what stands behind it is as it was.
 pub card-written :

@@ -11,8 +11,8 @@ use Rattle.chart.specs.Lending.{Ending, followUp, walk}
 use Rattle.chart.specs.Lending.Ending.{found, failed, stopped}
 use Rattle.room.specs.declared.Root.{Root}
 use Rattle.room.specs.Room.{chartIn, Kept}
-use Rattle.search.specs.declared.Ended.{Ended}
-use Rattle.search.specs.declared.Ended.the-variants.{Found, Failed, Stopped}
+use Rattle.searching.specs.declared.Ended.{Ended}
+use Rattle.searching.specs.declared.Ended.the-variants.{Found, Failed, Stopped}
 
 -- The ending that is meant, of a search that had that allowance at its beginning.
 abbrev pub endingOf : ℕ → Ended → Ending

@@ -5,9 +5,9 @@ use mathlib.Core.Path.{_≡_}
 use native.Mathlib.Omega.{arith}
 use borrow.Author.Needs.{needs}
 use lib.ListN.{take}
-use Rattle.writing.proofs.Storing.{still-inside}
-use Rattle.writing.proofs.put_trailer.Statement.{statement}
-use Rattle.writing.proofs.put_trailer.Tie as tie
+use Rattle.writer.proofs.Storing.{still-inside}
+use Rattle.writer.proofs.put_trailer.Statement.{statement}
+use Rattle.writer.proofs.put_trailer.Tie as tie
 
 -- What is stored, and where.
 abbrev stores : ℕ → ℕ → ℕ → List (ℕ × ℕ)

@@ -21,11 +21,11 @@ use Rattle.room.specs.declared.Executed.the-variants.{FollowUp}
 use Rattle.room.specs.Room.{chartIn}
 use Rattle.room.specs.Building.{Follows}
 use Rattle.room.proofs.Standing.{kept-self}
-use Rattle.follow.proofs.Onward.{exceeds-the-room, follow-up-costs, follow-up-stands}
-use Rattle.search.specs.declared.Ended.{Ended}
-use Rattle.search.specs.declared.Ended.the-variants.{Found, Failed, Stopped}
-use Rattle.search.specs.Ending.{leftOf, Leaves, Searches, Attempts}
-use Rattle.search.proofs.Deepest.{Within, follow-up-within, walk-within}
+use Rattle.room.proofs.Onward.{exceeds-the-room, follow-up-costs, follow-up-stands}
+use Rattle.searching.specs.declared.Ended.{Ended}
+use Rattle.searching.specs.declared.Ended.the-variants.{Found, Failed, Stopped}
+use Rattle.searching.specs.Ending.{leftOf, Leaves, Searches, Attempts}
+use Rattle.searching.proofs.Deepest.{Within, follow-up-within, walk-within}
 
 -- A stop for want of room says nothing of the follow-up.
 stopped-alike :

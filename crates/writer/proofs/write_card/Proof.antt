@@ -3,9 +3,9 @@ use mathlib.Core.Path.{_∙_}
 use native.Mathlib.Omega.{arith}
 use borrow.Author.Needs.{needs}
 use Rattle.room.specs.Room.{chartIn}
-use Rattle.writing.proofs.Whole.{held-is-writable, card-written}
-use Rattle.writing.proofs.write_card.Statement.{statement}
-use Rattle.writing.proofs.write_card.Tie as tie
+use Rattle.writer.proofs.Whole.{held-is-writable, card-written}
+use Rattle.writer.proofs.write_card.Statement.{statement}
+use Rattle.writer.proofs.write_card.Tie as tie
 
 write-requires : tie.Need-write-requires
 write-requires c κs =

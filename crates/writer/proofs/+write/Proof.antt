@@ -6,9 +6,9 @@ use native.Mathlib.Omega.{arith}
 use Rattle.chart.specs.Chart.Chart.{empty}
 use Rattle.room.specs.Room.{chartIn}
 use Rattle.room.proofs.Apart.{Reading, empty-here, unknown-here, left-lower, right-lower, body-lower}
-use Rattle.writing.specs.Outputs.{Writable}
+use Rattle.writer.specs.Outputs.{Writable}
 use Rattle.writing.proofs.Nodes.{at-least-one}
-use Rattle.writing.proofs.Putting.{
+use Rattle.writer.proofs.Putting.{
   asks-action,
   action-written,
   asks-empty,
@@ -25,12 +25,12 @@ use Prim.Native.Nat.{ℕ, _<_, _≤_}
 use borrow.Fn.Kinds.{In}
 use borrow.Fn.PlainCycle.{Measures, is, falls, and}
 use Rattle.places.proofs.read.Reads as read-reads
-use Rattle.writing.proofs.put.Reads as put-reads
-use Rattle.writing.proofs.write.Reads as f
-use Rattle.writing.proofs.write.Kinds as kinds
-use Rattle.writing.proofs.+write.Lts-write as lts
-use Rattle.writing.proofs.+write.{statement}
-use Rattle.writing.proofs.+write.Tie.{close}
+use Rattle.writer.proofs.put.Reads as put-reads
+use Rattle.writer.proofs.write.Reads as f
+use Rattle.writer.proofs.write.Kinds as kinds
+use Rattle.writer.proofs.+write.Lts-write as lts
+use Rattle.writer.proofs.+write.{statement}
+use Rattle.writer.proofs.+write.Tie.{close}
 
 -- The place number falls at each call.
 abbrev μ : Measures 2 kinds.ps ℕ

@@ -18,11 +18,11 @@ use Prim.Native.Nat.{ℕ, _<_}
 use borrow.Fn.Kinds.{In}
 use borrow.Fn.PlainCycle.{Measures, is, falls, and}
 use Rattle.places.proofs.read.Reads as read-reads
-use Rattle.pruning.proofs.terminates.Reads as f
-use Rattle.pruning.proofs.terminates.Kinds as kinds
-use Rattle.pruning.proofs.+terminates.Lts-terminates as lts
-use Rattle.pruning.proofs.+terminates.{statement}
-use Rattle.pruning.proofs.+terminates.Tie.{close}
+use Rattle.asking.proofs.terminates.Reads as f
+use Rattle.asking.proofs.terminates.Kinds as kinds
+use Rattle.asking.proofs.+terminates.Lts-terminates as lts
+use Rattle.asking.proofs.+terminates.{statement}
+use Rattle.asking.proofs.+terminates.Tie.{close}
 
 -- The place number falls at each call.
 abbrev μ : Measures 1 kinds.ps ℕ

@@ -17,12 +17,12 @@ use Rattle.node.proofs.Ranges.{three-to-six-are-pairs}
 use Rattle.node.proofs.Numbering.{kind-has-its-number}
 use Rattle.card.specs.Meaning.{Declared}
 use Rattle.room.proofs.Apart.{Reading, action-here, pair-here, loop-here}
 use Rattle.writing.specs.Rows.{nodeAs, rootFrom, parentOf, written}
 use Rattle.writing.specs.Cards.{recordOf, recordsOf}
-use Rattle.writing.specs.Outputs.{Storable, Stores, Writable, Writes}
+use Rattle.writer.specs.Outputs.{Storable, Stores, Writable, Writes}
 use Rattle.writing.proofs.Nodes.{length-written}
 use Rattle.writing.proofs.Read.{length-records}
-use Rattle.writing.proofs.Counting.{n, whole, left, right, a-leaf-is-one, a-pair-is-one-more, a-loop-is-one-more}
+use Rattle.writer.proofs.Counting.{n, whole, left, right, a-leaf-is-one, a-pair-is-one-more, a-loop-is-one-more}
 
 declared-sides :
     (q : Pair) (l r : Chart) → Declared 16 64 (paired q l r) → Declared 16 64 l × Declared 16 64 r

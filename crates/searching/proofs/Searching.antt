@@ -23,11 +23,11 @@ use Rattle.room.specs.Room.{chartIn, Table, Rooted, Kept}
 use Rattle.room.specs.Building.{actionOf, Follows}
 use Rattle.room.proofs.Standing.{kept-self, kept-then, kept-chart, kept-table}
 use Rattle.room.proofs.Apart.{kept-rooted}
-use Rattle.search.specs.declared.Ended.{Ended}
-use Rattle.search.specs.declared.Ended.the-variants.{Found, Failed, Stopped}
-use Rattle.search.specs.Ending.{endingOf, leftOf, Searches, Attempts}
-use Rattle.search.proofs.Turns.{from, tried, none-left, one-left, deepened-not, deepened-twice}
-use Rattle.search.proofs.Trying.{goes, same-choice, leaves-no-more}
+use Rattle.searching.specs.declared.Ended.{Ended}
+use Rattle.searching.specs.declared.Ended.the-variants.{Found, Failed, Stopped}
+use Rattle.searching.specs.Ending.{endingOf, leftOf, Searches, Attempts}
+use Rattle.searching.proofs.Turns.{from, tried, none-left, one-left, deepened-not, deepened-twice}
+use Rattle.searching.proofs.Trying.{goes, same-choice, leaves-no-more}
 
 -- The choice did not fail.
 abbrev pub Settled : Ended → Type 0

@@ -1,0 +1,2 @@
+-- Working definitions of writing a card.
+pub mod Outputs
