@@ -1,6 +1,6 @@
 // What stands in a room and what is answered of it. What the numbers of a room mean is said in specs/Room.antt, what the
-// answers mean in specs/Building.antt. The code is in the crates `places`, `laying`, `pruning`, `pairs`, `rounds` and
-// `follow`.
+// answers mean in specs/Building.antt. The code is in the crates `places`, `laying`, `asking`, `pruning`, `pairs`,
+// `rounds` and `follow`.
 
 // An action of a log.
 pub struct Action {

@@ -1,7 +1,7 @@
 -- `unaccepted` meets its contract: the number that the test gives. Assumes nothing.
 use borrow.Author.Tests.{lt-ltb, le-ltb}
-use Rattle.judge.proofs.unaccepted.Statement.{statement}
-use Rattle.judge.proofs.unaccepted.Tie as tie
+use Rattle.verdict.proofs.unaccepted.Statement.{statement}
+use Rattle.verdict.proofs.unaccepted.Tie as tie
 
 returns : tie.Need-returns
 returns c = rw (lt-ltb _ _ (c .if1 .taken))

@@ -1,6 +1,6 @@
 -- `tell` meets its contract: each ending is told as it is. Assumes nothing.
-use Rattle.judge.proofs.tell.Statement.{statement}
-use Rattle.judge.proofs.tell.Tie as tie
+use Rattle.verdict.proofs.tell.Statement.{statement}
+use Rattle.verdict.proofs.tell.Tie as tie
 
 enum-known-ended : tie.Need-enum-known-ended
 enum-known-ended c = c .match .keys1
