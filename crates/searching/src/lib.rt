@@ -1,4 +1,4 @@
-// How a search ends. What it means that a log was searched is said in specs/; the code that searches is the crate
+// The answer of a search. What it means that a log was searched is said in specs/; the code that searches is the crate
 // `search`.
 
 // How a search ends, each with the allowance left and the most places in use: it found an accepting path; or every
