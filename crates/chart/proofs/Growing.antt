@@ -68,9 +68,9 @@ levels-grow =
       loops = λ k b m h. omega arith;
     }
 
--- Pruning makes no chart deeper.
-pub pruning-makes-no-deeper : (c : Chart) (d : ℕ) → levels (chartOf (prune c d)) ≤ levels c
-pruning-makes-no-deeper = pruned-no-greater levels levels-grow
+-- Pruning adds no level.
+pub pruning-adds-no-level : (c : Chart) (d : ℕ) → levels (chartOf (prune c d)) ≤ levels c
+pruning-adds-no-level = pruned-no-greater levels levels-grow
 
 -- At most n levels, and each of the follow-ups so.
 abbrev AtMost : ℕ → Made → Type 0
@@ -90,7 +90,7 @@ on-right-within strict l d n xs h hs =
 on-right-within seq l d n xs h hs =
     every-if (AtMost (1 + n)) (evades l d) (map (newPair seq (prune l d)) xs)
     (every-map (AtMost n) (AtMost (1 + n)) (newPair seq (prune l d))
-    (λ x hx. omega (arith, pruning-makes-no-deeper l d)) xs hs)
+    (λ x hx. omega (arith, pruning-adds-no-level l d)) xs hs)
 on-right-within par l d n xs h hs =
     every-map (AtMost n) (AtMost (1 + n)) (newPair par (kept l)) (λ x hx. omega arith) xs hs
 
@@ -99,7 +99,7 @@ after-round-within :
     (k : Loop) (b : Chart) (d : ℕ) (x : Made) → made x ≤ 2 + levels b
     → made (afterRound k b d x) ≤ 2 + levels (loop k b)
 after-round-within (each strict) b d x h = omega arith
-after-round-within (each seq) b d x h = omega (arith, pruning-makes-no-deeper (loop (each seq) b) d)
+after-round-within (each seq) b d x h = omega (arith, pruning-adds-no-level (loop (each seq) b) d)
 after-round-within (each par) b d x h = omega arith
 after-round-within head b d x h = omega arith
 
