@@ -25,8 +25,8 @@ pub const FAMILIES: [Family<Question>; 16] = [
     Family::new("long searches", 1, long_searches),
     Family::new("long logs", 3, long_logs),
     Family::new("large charts", 2, large_charts),
-    Family::new("spoiled logs", 3, spoiled_logs),
-    Family::new("spoiled cards", 3, spoiled_cards),
+    Family::new("spoiled logs", 4, spoiled_logs),
+    Family::new("spoiled cards", 9, spoiled_cards),
     Family::new("one byte of the card damaged", 2, damaged_cards),
 ];
 

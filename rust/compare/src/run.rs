@@ -5,6 +5,10 @@ use std::collections::BTreeMap;
 use generate::family::Family;
 use generate::random::Random;
 
+/// At least so many answers of each number are wanted in each call that can give
+/// it, unless few inputs are asked for.
+const LEAST: usize = 1_000;
+
 /// How one input is compared: gives the number that both programs answer, or
 /// says what is wrong.
 pub type Compare<T> = fn(&mut Random, &T) -> Result<u32, String>;
@@ -71,7 +75,8 @@ impl Tally {
         Ok(())
     }
 
-    /// Prints the counts; fails if a number never came up or inputs are missing.
+    /// Prints the counts; fails if a number came up too seldom or inputs are
+    /// missing.
     fn report(&self, asked: usize) -> Result<(), String> {
         let what = self.what;
         for (number, times) in &self.numbers {
@@ -79,14 +84,24 @@ impl Tally {
         }
         let total: usize = self.numbers.values().sum();
         println!("{total:>9}  {what} in all, no difference");
-        if let Some((number, _)) = self.numbers.iter().find(|(_, times)| **times == 0) {
-            return Err(format!("number {number} was never answered"));
+        let least = least(asked);
+        if let Some((number, times)) = self.numbers.iter().find(|(_, times)| **times < least) {
+            return Err(format!(
+                "number {number} was answered {times} times in {total} {what}, \
+                 at least {least} are wanted"
+            ));
         }
         if total < asked {
             return Err(format!("{asked} {what} were asked for, {total} compared"));
         }
         Ok(())
     }
+}
+
+/// How many answers of each number are wanted if so many inputs are asked for:
+/// with few inputs one for each hundred of them, and always one.
+fn least(asked: usize) -> usize {
+    (asked / 100).clamp(1, LEAST)
 }
 
 /// Where what was lent to both programs first differs, counted from behind the

@@ -11,6 +11,9 @@ use crate::lending::{Case, large_room};
 use crate::question::{Foreseen, Question, refused};
 use crate::subjects::{self, any_entry, any_log};
 
+/// A batch of spoiled cards has at least so many of each number.
+const OF_EACH_NUMBER: usize = 26;
+
 /// A question with any lending, small or large.
 fn any_lending(random: &mut Random, card: Vec<u8>, log: Vec<u8>, foreseen: Foreseen) -> Question {
     let large = large_room(random);
@@ -106,10 +109,10 @@ fn undeclared_entry(random: &mut Random, draft: &Draft) -> Entry {
     random.pick(&[[stranger, message], [who, beyond], [stranger, beyond]])
 }
 
-/// Every fault of a card, each with a log of any bytes.
+/// Every fault of a card, and every number often, each with a log of any bytes.
 pub fn spoiled_cards(random: &mut Random) -> Vec<Question> {
     let mut questions = Vec::new();
-    for fault in faults::all() {
+    for fault in faults::of_each_number(OF_EACH_NUMBER) {
         let card = with_faults(random, &[fault]);
         let foreseen = match card.expected {
             Some(number) => Foreseen::Numbers(vec![number]),

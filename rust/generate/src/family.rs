@@ -6,7 +6,8 @@ use crate::random::Random;
 /// family, so one batch of every family already gives every number.
 pub struct Family<T> {
     pub name: &'static str,
-    /// How many of a hundred inputs are of this family.
+    /// How many inputs of this family are compared for each hundred that are asked
+    /// for. The shares of all families together are at least a hundred.
     pub share: usize,
     pub batch: fn(&mut Random) -> Vec<T>,
 }

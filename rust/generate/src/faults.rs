@@ -72,6 +72,19 @@ pub fn all() -> Vec<Fault> {
     faults
 }
 
+/// All faults; those of a number that has few of them again and again, so that
+/// each number has at least so many.
+pub fn of_each_number(least: usize) -> Vec<Fault> {
+    let mut faults = Vec::new();
+    for number in 1..=6 {
+        let mut causes = all();
+        causes.retain(|fault| fault.number() == number);
+        let times = least.div_ceil(causes.len());
+        faults.extend(causes.repeat(times));
+    }
+    faults
+}
+
 impl Fault {
     /// The number that a card with this fault alone gives.
     pub fn number(self) -> u32 {

@@ -22,7 +22,7 @@ pub const FAMILIES: [Family<Question>; 11] = [
     Family::new("large charts", 6, large_charts),
     Family::new("lifelines not declared", 6, undeclared_lifelines),
     Family::new("cut cards judged again", 2, judged_again),
-    Family::new("spoiled cards", 8, spoiled_cards),
+    Family::new("spoiled cards", 12, spoiled_cards),
     Family::new("cards of all families", 6, all_families),
     Family::new("one byte of the card damaged", 4, damaged_cards),
 ];

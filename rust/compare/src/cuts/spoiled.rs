@@ -8,6 +8,10 @@ use super::asking::{any_declared, any_undeclared, ask, foresee};
 use super::question::{Foreseen, Question};
 use crate::subjects;
 
+/// A batch of spoiled cards has at least so many of each number. Each card is
+/// asked about four times.
+const OF_EACH_NUMBER: usize = 10;
+
 /// 11 comes before 12 and 13.
 pub fn undeclared_lifelines(random: &mut Random) -> Vec<Question> {
     let mut questions = Vec::new();
@@ -19,10 +23,11 @@ pub fn undeclared_lifelines(random: &mut Random) -> Vec<Question> {
     questions
 }
 
-/// 1 to 6 come before 11, 12 and 13.
+/// Every fault of a card, and every number often: 1 to 6 come before 11, 12
+/// and 13.
 pub fn spoiled_cards(random: &mut Random) -> Vec<Question> {
     let mut questions = Vec::new();
-    for fault in faults::all() {
+    for fault in faults::of_each_number(OF_EACH_NUMBER) {
         let card = with_faults(random, &[fault]);
         questions.extend(ask_any(random, &card));
     }
