@@ -1,2 +1,2 @@
--- Laws of telling.
-pub mod Reporting
+-- Laws of reading.
+pub mod Answers

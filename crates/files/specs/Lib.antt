@@ -1,3 +1,2 @@
--- What reading a file comes to, and what the program has to tell.
+-- What reading a file comes to, answer by answer.
 pub mod Reading
-pub mod Telling

@@ -1,10 +1,14 @@
 -- `read` meets its contract: each turn puts some bytes more behind those that were read, and never more than there is
--- room for. Assumes nothing.
-use Prim.Native.Nat.{_-_, _≤_}
-use mathlib.Core.Path.{_≡_, refl, _∙_}
+-- room for; what it ends with is what `after` made of the last answer. Assumes nothing.
+use Prim.Native.Nat.{_-_, _<_, _≤_}
+use mathlib.Core.Path.{_≡_, refl, sym, subst, _∙_}
 use native.Mathlib.Omega.{arith}
-use lib.ListN.{length, drop, length-take}
+use lib.ListN.{length, take, drop, length-take, length-drop}
+use mir.Syntax.{w64}
+use mir.ValLaws.{toZ-ofZ}
 use borrow.Rule.Slice.PartMut.{putMid, same-len-mid}
+use Rattle.libc.specs.Io.{Moved}
+use Rattle.files.proofs.Answers.{readOut, goes-on, ends, not-negative-is-open}
 use Rattle.files.proofs.read.Statement.{statement}
 use Rattle.files.proofs.read.Tie as tie
 
@@ -16,30 +20,40 @@ abbrev μ-loop : tie.MeasureT-loop
 
 -- The lent bytes are as many after a read.
 still-long : (c : tie.After-read Inv-loop μ-loop)
-    → (let s = c .before .before .before .before .before .before .args .bytes .now in
-    let at = c .before .before .before .loop in
+    → (let s = c .before .before .before .before .before .args .bytes .now in
+    let at = c .before .before .loop in
     length (putMid (at .end) (length s - at .end) (at .bytes) (c .read .last .1 .0)) ≡ length s)
 still-long c =
-    let s = c .before .before .before .before .before .before .args .bytes .now in
-    let at = c .before .before .before .loop in
+    let s = c .before .before .before .before .before .args .bytes .now in
+    let at = c .before .before .loop in
     same-len-mid (at .end) (length s - at .end) (at .bytes) (c .read .last .1 .0) (c .read .kept .1 .0) ∙ at .inv .1
 
--- No more was read than there was room for.
-within : (c : tie.After-count Inv-loop μ-loop)
-    → c .count .result ≤ length
-    (c .before .before .before .before .before .before .before .before .before .before .before .before .args .bytes
-    .now) - c .before .before .before .before .before .before .before .before .before .loop .end
-within c =
-    let s =
-    c .before .before .before .before .before .before .before .before .before .before .before .before .args .bytes .now
-    in
-    let at = c .before .before .before .before .before .before .before .before .before .loop in
-    let all = putMid (at .end) (length s - at .end) (at .bytes)
-    (c .before .before .before .before .before .before .read .last .1 .0) in
-    omega (arith, c .count .ensures .0, length-take (length s - at .end) (drop (at .end) all))
+-- The answer, as `after` is handed it, is a failure or a number of bytes for which there was room.
+moved : (c : tie.After-read Inv-loop μ-loop)
+    → Moved (length (c .before .before .before .before .before .args .bytes .now) - c .before .before .loop .end)
+    (readOut (c .read .result))
+moved c =
+    let s = c .before .before .before .before .before .args .bytes .now in
+    let at = c .before .before .loop in
+    let part : length (take (length s - at .end) (drop (at .end) (at .bytes))) ≡ length s - at .end
+    = simp (length-take, length-drop) (omega (arith, at .inv .1)) in
+    subst (Moved (length s - at .end)) (sym (toZ-ofZ w64 (c .read .result) (record { sfits = c .read .ok })))
+    (rw part at (c .read .ensures))
+
+-- The next turn begins behind what was read before, and within the lent bytes.
+further : (c : tie.After-known-told Inv-loop μ-loop)
+    → (let at = c .before .before .before .before .before .before .before .before .loop in
+    let s = c .before .before .before .before .before .before .before .before .before .before .before .args .bytes .now in
+    let read = c .before .turn .given .0 .0 in (at .end < read) × (read ≤ length s))
+further c =
+    let at = c .before .before .before .before .before .before .before .before .loop in
+    let s = c .before .before .before .before .before .before .before .before .before .before .before .args .bytes .now in
+    let call = c .before .before .before .before .before .before in
+    goes-on (at .end) (length s) (at .inv .0) (readOut (call .read .result)) (c .before .turn .given .0 .0) (moved call)
+    (sym (c .before .before .before .after .ensures) ∙ c .before .turn .given .1)
 
 returns : tie.Need-returns Inv-loop μ-loop
-returns c = tt
+returns c = (tt, tt)
 
 loop-holds : tie.Need-loop-holds Inv-loop μ-loop
 loop-holds c = (omega arith, refl)
@@ -56,69 +70,37 @@ part-read-end c = omega arith
 read-requires : tie.Need-read-requires Inv-loop μ-loop
 read-requires c κs = tt
 
-same-length : tie.Need-same-length Inv-loop μ-loop
-same-length c = still-long (c .before .before .before)
+after-requires : tie.Need-after-requires Inv-loop μ-loop
+after-requires c κs = (omega (arith, c .before .before .before .before .loop .inv .0), moved (c .before .before))
 
-returns-2 : tie.Need-returns-2 Inv-loop μ-loop
-returns-2 c = tt
-
-sub-count : tie.Need-sub-count Inv-loop μ-loop
-sub-count c = omega arith
-
-part-count-start : tie.Need-part-count-start Inv-loop μ-loop
-part-count-start c = omega arith
-
-part-count-end : tie.Need-part-count-end Inv-loop μ-loop
-part-count-end c = omega (arith, still-long (c .before .before .before .before))
-
-count-requires : tie.Need-count-requires Inv-loop μ-loop
-count-requires c κs = tt
-
-same-length-2 : tie.Need-same-length-2 Inv-loop μ-loop
-same-length-2 c = still-long (c .before .before .before .before .before .before .before)
-
-returns-3 : tie.Need-returns-3 Inv-loop μ-loop
-returns-3 c =
-    omega (
-      arith,
-      still-long (c .before .before .before .before .before .before .before),
-      c .before .before .before .before .before .before .before .before .before .before .loop .inv .0,
-    )
-
-add-end : tie.Need-add-end Inv-loop μ-loop
-add-end c =
-    omega (
-      arith,
-      within (c .before),
-      c .before .before .before .before .before .before .before .before .before .before .loop .inv .0,
-      c .before .before .before .before .before .before .before .before .before .before .before .before .before .good,
-    )
+enum-known-turn : tie.Need-enum-known-turn Inv-loop μ-loop
+enum-known-turn c = c .match .keys1
 
 loop-less : tie.Need-loop-less Inv-loop μ-loop
-loop-less c =
-    omega (
-      arith,
-      within (c .before),
-      c .if3 .left,
-      c .before .before .before .before .before .before .before .before .before .loop-test .taken,
-    )
+loop-less c = omega (arith, further c)
 
 loop-again : tie.Need-loop-again Inv-loop μ-loop
-loop-again c = (
-  omega (
-    arith,
-    within (c .before),
-    c .before .before .before .before .before .before .before .before .before .before .loop .inv .0,
-  ),
-  still-long
-      (c .before .before .before .before .before .before .before),
-)
+loop-again c = (further c .1, still-long (c .before .before .before .before .before .before))
 
-same-length-3 : tie.Need-same-length-3 Inv-loop μ-loop
-same-length-3 c = c .before .loop .inv .1
+enum-known-turn-2 : tie.Need-enum-known-turn-2 Inv-loop μ-loop
+enum-known-turn-2 c = c .match .keys2
 
-returns-4 : tie.Need-returns-4 Inv-loop μ-loop
-returns-4 c = omega (arith, c .before .loop .inv)
+same-length : tie.Need-same-length Inv-loop μ-loop
+same-length c = still-long (c .before .before .before .before .before .before)
+
+returns-2 : tie.Need-returns-2 Inv-loop μ-loop
+returns-2 c =
+    let at = c .before .before .before .before .before .before .before .before .loop in
+    let start = c .before .before .before .before .before .before .before .before .before .before .before in
+    let call = c .before .before .before .before .before .before in
+    let s = start .args .bytes .now in
+    let content = c .before .turn2 .given .0 .0 in (
+      not-negative-is-open content (start .args .file) (start .fits .file)
+          (c .before .before .before .before .before .before .before .before .before .if1 .left),
+      ends (at .end) (length s) (at .inv .0) (readOut (call .read .result)) content
+          (putMid (at .end) (length s - at .end) (at .bytes) (call .read .last .1 .0)) (still-long call) (moved call)
+          (sym (c .before .before .before .after .ensures) ∙ c .before .turn2 .given .1),
+    )
 
 pub read-spec : {M : Type 1} → statement M
 read-spec =
@@ -132,16 +114,10 @@ read-spec =
     part-read-start
     part-read-end
     read-requires
-    same-length
-    returns-2
-    sub-count
-    part-count-start
-    part-count-end
-    count-requires
-    same-length-2
-    returns-3
-    add-end
+    after-requires
+    enum-known-turn
     loop-less
     loop-again
-    same-length-3
-    returns-4)
+    enum-known-turn-2
+    same-length
+    returns-2)

@@ -1,0 +1,92 @@
+-- `judge_contents` meets its contract: without one of the contents there is none to judge; else what was read stands at
+-- the front of the lent bytes, and that is judged. Assumes nothing.
+use Prim.Native.Nat.{_-_}
+use mathlib.Core.Path.{_≡_, ap}
+use native.Mathlib.Omega.{arith}
+use borrow.Author.Needs.{needs}
+use Rattle.telling.specs.declared.Told.the-variants.{Answer}
+use Rattle.files.proofs.judge_contents.Statement.{statement}
+use Rattle.files.proofs.judge_contents.Tie as tie
+
+enum-known-chart : tie.Need-enum-known-chart
+enum-known-chart c = search needs
+
+enum-told : tie.Need-enum-told
+enum-told c = search needs
+
+returns : tie.Need-returns
+returns c = search needs
+
+enum-known-log : tie.Need-enum-known-log
+enum-known-log c = search needs
+
+enum-told-2 : tie.Need-enum-told-2
+enum-told-2 c = search needs
+
+returns-2 : tie.Need-returns-2
+returns-2 c = search needs
+
+sub-judge : tie.Need-sub-judge
+sub-judge c = search needs
+
+part-judge-start : tie.Need-part-judge-start
+part-judge-start c = search needs
+
+part-judge-end : tie.Need-part-judge-end
+part-judge-end c =
+    omega (
+      arith,
+      rw (c .before .before .before .before .chart .given .1) at
+          (c .before .before .before .before .before .before .before .before .before .pre .0),
+    )
+
+sub-judge-2 : tie.Need-sub-judge-2
+sub-judge-2 c = search needs
+
+part-judge-start-2 : tie.Need-part-judge-start-2
+part-judge-start-2 c = search needs
+
+part-judge-end-2 : tie.Need-part-judge-end-2
+part-judge-end-2 c =
+    omega (
+      arith,
+      rw (c .before .before .log .given .1) at
+          (c .before .before .before .before .before .before .before .before .before .before .pre .1),
+    )
+
+judge-requires : tie.Need-judge-requires
+judge-requires c κs = search needs
+
+same-length : tie.Need-same-length
+same-length c = search needs
+
+returns-3 : tie.Need-returns-3
+returns-3 c =
+    let chart = c .before .before .before .before .before .before .before .before .before .before .chart .given in
+    let log = c .before .before .before .before .before .before .before .log .given in
+    let m = chart .0 .0 in
+    let n = log .0 .0 in
+    let all-of-the-card : m - 0 ≡ m = omega arith in
+    let all-of-the-log : n - 0 ≡ n = omega arith in
+    let done = rw (all-of-the-card, all-of-the-log) at (c .before .before .judge .ensures) in
+    rw (chart .1, log .1) (ap Answer (done .0), done .1)
+
+pub judge-contents-spec : {M : Type 1} → statement M
+judge-contents-spec =
+    tie.close
+    (tie.spec
+    enum-known-chart
+    enum-told
+    returns
+    enum-known-log
+    enum-told-2
+    returns-2
+    sub-judge
+    part-judge-start
+    part-judge-end
+    sub-judge-2
+    part-judge-start-2
+    part-judge-end-2
+    judge-requires
+    same-length
+    returns-3)

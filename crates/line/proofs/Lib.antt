@@ -1,0 +1,2 @@
+-- Laws of a text to which bytes are put.
+pub mod Adding
