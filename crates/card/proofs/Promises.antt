@@ -1,6 +1,7 @@
 -- What is promised of cards, for whoever reads nothing else: each sentence of 01 on cards, as a theorem that only
--- cites others. `check` answers `checking` of the bytes and `note` hands back `noteOf` of them: that is their
--- contract (src/lib.rt). What is said here of the two definitions is therefore said of the code.
+-- cites others. `check` answers `checking` of the bytes; `note` hands back the part that begins where the card begins and
+-- is `noteOf` of the bytes: that is their contract (reader/src/lib.rt). What is said here of the two definitions is
+-- therefore said of the code.
 -- Assumes nothing.
 use Prim.Native.Nat.{ℕ, _-_, _≤_}
 use mathlib.Core.List.{List, []}
@@ -56,12 +57,15 @@ module _ (card : List ℕ) where
   pub every-card-gets-a-number : checking card .number ≤ 6
   every-card-gets-a-number = told-at-most-six card (answer→told card)
 
-  -- and no second answer, nor a second note or length of it, meets the contract.
+  -- and no second answer, nor a second note (its bytes, or the place in memory where it begins) or length of it, meets the
+  -- contract.
   pub no-second-answer : {r s : Checked} → r ≡ checking card → s ≡ checking card → r ≡ s
   no-second-answer e f = e ∙ sym f
 
-  pub no-second-note : {r s : List ℕ} → r ≡ noteOf card → s ≡ noteOf card → r ≡ s
-  no-second-note e f = e ∙ sym f
+  pub no-second-note :
+      {from r-from s-from : ℕ × ℕ} {r s : List ℕ} → (r-from ≡ from) × (r ≡ noteOf card)
+      → (s-from ≡ from) × (s ≡ noteOf card) → (r-from ≡ s-from) × (r ≡ s)
+  no-second-note (e-from, e) (f-from, f) = (e-from ∙ sym f-from, e ∙ sym f)
 
   pub no-second-length : {r s : ℕ} → r ≡ length (noteOf card) → s ≡ length (noteOf card) → r ≡ s
   no-second-length e f = e ∙ sym f

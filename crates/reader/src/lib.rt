@@ -1,5 +1,6 @@
 // The card reader: any run of bytes gets its one answer as a chart card (01, "The chart card" and numbers 1 to 6 of
 // "Verdicts and numbers given").
+ghost use denote.Ref.{ptr};
 ghost use mathlib.Core.Path.{_≡_};
 ghost use Rattle.card.specs.Checking.{checking, refusal};
 ghost use Rattle.card.specs.Note.{noteOf};
@@ -59,7 +60,7 @@ pub fn check(card: &[u8]) -> Checked
 
 // The note of a sound card: the leading part of the caller's own bytes. Any other card has none.
 pub fn note(card: &[u8]) -> &[u8]
-    ensures { λ r. ⌜ now r ≡ noteOf (now (card .entry)) ⌝ }
+    ensures { λ r. ⌜ ptr r ≡ ptr (card .entry) × now r ≡ noteOf (now (card .entry)) ⌝ }
 {
     let checked = check(card);
     let number = checked.number;

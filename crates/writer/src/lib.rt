@@ -3,7 +3,7 @@
 ghost use mathlib.Core.Path.{_≡_};
 ghost use mathlib.Core.List.{_++_};
 ghost use Prim.Native.Nat.{_+_, _<_, _≤_};
-ghost use lib.ListN.{length, drop};
+ghost use lib.ListN.{length, drop, set};
 ghost use lib.Seq.{sets};
 ghost use Rattle.chart.specs.Chart.{size};
 ghost use Rattle.room.specs.Room.{chartIn, Rooted};
@@ -33,6 +33,13 @@ pub fn card_bytes(room: &[u32], place: u32) -> usize
     count(room, place) as usize * Node::NODE_BYTES + Node::TRAILER_BYTES
 }
 
+fn store(out: &mut [u8], at: usize, byte: u8)
+    requires { ⌜ at < length (now out) ⌝ }
+    ensures { λ _. ⌜ now (out .exit) ≡ set (now (out .entry)) at byte ⌝ }
+{
+    out[at] = byte;
+}
+
 // The record of the node with that number. The next node's number is handed back.
 fn put(out: &mut [u8], number: u32, kind: u32, a: u32, b: u32) -> u32
     requires { ⌜ Storable (record { kind = kind; a = a; b = b }) number (now out) ⌝ }
@@ -40,10 +47,10 @@ fn put(out: &mut [u8], number: u32, kind: u32, a: u32, b: u32) -> u32
         ⌜ Stores (record { kind = kind; a = a; b = b }) number (now (out .entry)) r (now (out .exit)) ⌝ }
 {
     let at = number as usize * Node::NODE_BYTES;
-    out[at] = kind as u8;
-    out[at + 1] = a as u8;
-    out[at + 2] = b as u8;
-    out[at + 3] = 0;
+    store(out, at, kind as u8);
+    store(out, at + 1, a as u8);
+    store(out, at + 2, b as u8);
+    store(out, at + 3, 0);
     number + 1
 }
 
@@ -75,12 +82,12 @@ fn put_trailer(out: &mut [u8], back: usize, lifelines: u32, messages: u32)
     requires { ⌜ back + 6 ≤ length (now out) × back < 65536 × lifelines < 256 × messages < 256 ⌝ }
     ensures { λ r. ⌜ now (out .exit) ≡ sets (now (out .entry)) back (trailerOf back lifelines messages) ⌝ }
 {
-    out[back] = (back % 256) as u8;
-    out[back + 1] = (back / 256) as u8;
-    out[back + 2] = lifelines as u8;
-    out[back + 3] = messages as u8;
-    out[back + 4] = 0x57;
-    out[back + 5] = 0x4C;
+    store(out, back, (back % 256) as u8);
+    store(out, back + 1, (back / 256) as u8);
+    store(out, back + 2, lifelines as u8);
+    store(out, back + 3, messages as u8);
+    store(out, back + 4, 0x57);
+    store(out, back + 5, 0x4C);
 }
 
 // The card of a part, with these counts, in the first bytes of an output that has as many.

@@ -9,7 +9,7 @@ note-requires : tie.Need-note-requires
 note-requires c κs = search needs
 
 returns : tie.Need-returns
-returns c = ap length (c .note .ensures)
+returns c = ap length (c .note .ensures .1)
 
 pub airpistil-note-spec : {M : Type 1} → statement M
 airpistil-note-spec = tie.close (tie.spec note-requires returns)

@@ -1,9 +1,12 @@
 -- `judge_contents` meets its contract: without one of the contents there is none to judge; else what was read stands at
 -- the front of the lent bytes, and that is judged. Assumes nothing.
 use Prim.Native.Nat.{_-_}
-use mathlib.Core.Path.{_≡_, ap}
+use mathlib.Core.Path.{_≡_, ap, _∙_}
 use native.Mathlib.Omega.{arith}
 use borrow.Author.Needs.{needs}
+use lib.ListN.{length, take}
+use Rattle.judgment.specs.Judgment.{judgment, roomAfter}
+use Rattle.telling.specs.Telling.{allowance}
 use Rattle.telling.specs.declared.Told.the-variants.{Answer}
 use Rattle.files.proofs.judge_contents.Statement.{statement}
 use Rattle.files.proofs.judge_contents.Tie as tie
@@ -62,14 +65,21 @@ same-length c = search needs
 
 returns-3 : tie.Need-returns-3
 returns-3 c =
+    let start = c .before .before .before .before .before .before .before .before .before .before .before .before .before
+    .before .before in
     let chart = c .before .before .before .before .before .before .before .before .before .before .chart .given in
     let log = c .before .before .before .before .before .before .before .log .given in
-    let m = chart .0 .0 in
-    let n = log .0 .0 in
-    let all-of-the-card : m - 0 ≡ m = omega arith in
-    let all-of-the-log : n - 0 ≡ n = omega arith in
-    let done = rw (all-of-the-card, all-of-the-log) at (c .before .before .judge .ensures) in
-    rw (chart .1, log .1) (ap Answer (done .0), done .1)
+    let card = start .args .card .now in
+    let actions = start .args .actions .now in
+    let room = start .args .room .now in
+    let m : chart .0 .0 - 0 ≡ chart .0 .0 = omega arith in
+    let n : log .0 .0 - 0 ≡ log .0 .0 = omega arith in
+    let same : (judgment (take (chart .0 .0 - 0) card) (take (log .0 .0 - 0) actions) allowance (length room)
+    ≡ judgment (take (chart .0 .0) card) (take (log .0 .0) actions) allowance (length room))
+    = rw (m, n) in
+    let left : (roomAfter (take (chart .0 .0 - 0) card) (take (log .0 .0 - 0) actions) room
+    ≡ roomAfter (take (chart .0 .0) card) (take (log .0 .0) actions) room) = rw (m, n) in
+    rw (chart .1, log .1) (ap Answer (c .before .before .judge .ensures .0 ∙ same), c .before .before .judge .ensures .1 ∙ left)
 
 pub judge-contents-spec : {M : Type 1} → statement M
 judge-contents-spec =

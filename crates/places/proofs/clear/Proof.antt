@@ -35,7 +35,7 @@ loop-again c =
     let s = c .before .before .args .room .now in
     let at = c .before .loop in (
       omega arith,
-      length-set (at .room) (at .i) 0 ∙ at .inv .1,
+      rw length-set (at .inv .1),
       ap (λ l. set l (at .i) 0) (at .inv .2) ∙ fill-more (at .i) 0 s (omega arith),
     )
 

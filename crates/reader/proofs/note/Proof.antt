@@ -1,12 +1,18 @@
--- `note` meets its contract: the part up to the first node, or the empty part, by the answer of `check`. Assumes
--- nothing.
-use Prim.Native.Nat.{_-_}
-use mathlib.Core.Path.{_≡_}
+-- `note` meets its contract: the part up to the first node, or the empty part, by the answer of `check`; both begin where
+-- the card begins. Assumes nothing.
+use Prim.Native.Nat.{ℕ, _+_, _-_}
+use mathlib.Core.Path.{_≡_, ap}
 use native.Mathlib.Omega.{arith}
 use borrow.Author.Tests.{eq-eqb, ne-eqb}
 use Rattle.card.specs.Parts.{firstAt}
 use Rattle.reader.proofs.note.Statement.{statement}
 use Rattle.reader.proofs.note.Tie as tie
+
+-- A part that begins at a slice's first byte begins where the slice begins: in its block, at its offset.
+begins-there : (block offset : ℕ) → _≡_ {A = ℕ × ℕ} (block, 0 + offset) (block, offset)
+begins-there block offset =
+    let same : 0 + offset ≡ offset = omega arith in
+    ap (λ at. (block, at)) same
 
 check-requires : tie.Need-check-requires
 check-requires c κs = tt
@@ -22,7 +28,10 @@ part-result-end c = omega arith
 
 returns : tie.Need-returns
 returns c =
-    rw (← c .before .before .check .ensures, ne-eqb _ _ (c .before .if1 .taken))
+    let card = c .before .before .before .before .args .card in (
+      begins-there (card .ptr .0) (card .ptr .1),
+      rw (← c .before .before .check .ensures, ne-eqb _ _ (c .before .if1 .taken)),
+    )
 
 first-at-requires : tie.Need-first-at-requires
 first-at-requires c κs = tt
@@ -38,9 +47,11 @@ part-result-end-2 c = omega arith
 
 returns-2 : tie.Need-returns-2
 returns-2 c =
-    let card = c .before .before .before .before .before .args .card .now in
-    let end : c .before .first-at .result - 0 ≡ firstAt card = omega arith in
-    rw (← c .before .before .before .check .ensures, eq-eqb _ _ (c .before .before .if1 .left), end)
+    let card = c .before .before .before .before .before .args .card in
+    let end : c .before .first-at .result - 0 ≡ firstAt (card .now) = omega arith in (
+      begins-there (card .ptr .0) (card .ptr .1),
+      rw (← c .before .before .before .check .ensures, eq-eqb _ _ (c .before .before .if1 .left), end),
+    )
 
 pub note-spec : {M : Type 1} → statement M
 note-spec =

@@ -1,86 +1,86 @@
--- `put` meets its contract: four bytes, one after the other. Assumes nothing.
-use Prim.Native.Nat.{ℕ, suc, _+_, _*_}
-use mathlib.Core.List.{List, [], _∷_}
+-- `put` meets its contract: four bytes are stored, one after the other. Assumes nothing.
+use Prim.Native.Nat.{suc, _+_, _*_}
 use mathlib.Core.Path.{_≡_, refl}
 use native.Mathlib.Omega.{arith}
-use borrow.Author.Needs.{needs}
-use lib.ListN.{take}
-use Rattle.writer.proofs.Storing.{still-inside}
 use Rattle.writer.proofs.put.Statement.{statement}
 use Rattle.writer.proofs.put.Tie as tie
 
--- What is stored, and where.
-abbrev stores : ℕ → ℕ → ℕ → ℕ → List (ℕ × ℕ)
-stores at kind a b = (at, kind) ∷ (at + 1, a) ∷ (at + 2, b) ∷ (at + 3, 0) ∷ []
-
 mul-at : tie.Need-mul-at
-mul-at c = search needs
+mul-at c = omega arith
 
-cast-out : tie.Need-cast-out
-cast-out c = search needs
+cast-store : tie.Need-cast-store
+cast-store c = omega arith
 
-slice-write-out : tie.Need-slice-write-out
-slice-write-out c = search needs
+store-requires : tie.Need-store-requires
+store-requires c κs = omega arith
 
-cast-out-2 : tie.Need-cast-out-2
-cast-out-2 c = search needs
+add-store : tie.Need-add-store
+add-store c = omega arith
 
-add-out : tie.Need-add-out
-add-out c = search needs
+cast-store-2 : tie.Need-cast-store-2
+cast-store-2 c = omega arith
 
-slice-write-out-2 : tie.Need-slice-write-out-2
-slice-write-out-2 c =
-    let s = c .args in
-    still-inside (s .out .now) (take 1 (stores (s .number * 4) (s .kind) (s .a) (s .b))) (omega arith)
+store-requires-2 : tie.Need-store-requires-2
+store-requires-2 c κs = omega arith
 
-cast-out-3 : tie.Need-cast-out-3
-cast-out-3 c = search needs
+add-store-2 : tie.Need-add-store-2
+add-store-2 c = omega arith
 
-add-out-2 : tie.Need-add-out-2
-add-out-2 c = search needs
+cast-store-3 : tie.Need-cast-store-3
+cast-store-3 c = omega arith
 
-slice-write-out-3 : tie.Need-slice-write-out-3
-slice-write-out-3 c =
-    let s = c .args in
-    still-inside (s .out .now) (take 2 (stores (s .number * 4) (s .kind) (s .a) (s .b))) (omega arith)
+store-requires-3 : tie.Need-store-requires-3
+store-requires-3 c κs = omega arith
 
-add-out-3 : tie.Need-add-out-3
-add-out-3 c = search needs
+add-store-3 : tie.Need-add-store-3
+add-store-3 c = omega arith
 
-slice-write-out-4 : tie.Need-slice-write-out-4
-slice-write-out-4 c =
-    let s = c .args in
-    still-inside (s .out .now) (take 3 (stores (s .number * 4) (s .kind) (s .a) (s .b))) (omega arith)
+store-requires-4 : tie.Need-store-requires-4
+store-requires-4 c κs = omega arith
 
 add-result : tie.Need-add-result
-add-result c = search needs
+add-result c = omega arith
 
 same-length : tie.Need-same-length
-same-length c = search needs
+same-length c = omega arith
 
 returns : tie.Need-returns
 returns c =
-    let at = c .args .number * 4 in
+    let fourth = c .before .before in
+    let third = fourth .before .before .before .before in
+    let second = third .before .before .before .before in
+    let first = second .before .before .before .before in
+    let at = first .before .before .before .args .number * 4 in
     let one : at + 1 ≡ suc at = omega arith in
     let two : at + 2 ≡ suc (suc at) = omega arith in
-    let three : at + 3 ≡ suc (suc (suc at)) = omega arith in
-    (refl, rw (one, two, three))
+    let three : at + 3 ≡ suc (suc (suc at)) = omega arith in (
+      refl,
+      rw (
+        fourth .store4 .ensures,
+        third .store3 .ensures,
+        second .store2 .ensures,
+        first .store .ensures,
+        one,
+        two,
+        three,
+      ),
+    )
 
 pub put-spec : {M : Type 1} → statement M
 put-spec =
     tie.close
     (tie.spec
     mul-at
-    cast-out
-    slice-write-out
-    cast-out-2
-    add-out
-    slice-write-out-2
-    cast-out-3
-    add-out-2
-    slice-write-out-3
-    add-out-3
-    slice-write-out-4
+    cast-store
+    store-requires
+    add-store
+    cast-store-2
+    store-requires-2
+    add-store-2
+    cast-store-3
+    store-requires-3
+    add-store-3
+    store-requires-4
     add-result
     same-length
     returns)
