@@ -53,7 +53,7 @@ told-at-most-six card (six t h) = omega arith
 told-at-most-six card (sound s) = omega arith
 
 module _ (card : List ℕ) where
-  -- "Every card, sound or spoiled, gets exactly one numbered answer": one of 0 to 6,
+  -- "Every card .., sound or spoiled, gets exactly one numbered answer" (00): one of 0 to 6,
   pub every-card-gets-a-number : checking card .number ≤ 6
   every-card-gets-a-number = told-at-most-six card (answer→told card)
 

@@ -29,7 +29,7 @@ use Rattle.chart.specs.Published.{
 use Rattle.chart.specs.Member.{May, Deal, done, left, right, Round, dealt, headed, Star, none, more, Member}
 use Rattle.chart.specs.Executing.{chartOf, evades, prune}
 use Rattle.chart.proofs.Deals.{deal-all-left, deal-all-right, deal-appended, deal-strict-is-appended}
-use Rattle.chart.proofs.Evading.{evades-iff-some-log-avoids}
+use Rattle.chart.proofs.Evading.{every-chart-has-a-log, evades-iff-some-log-avoids}
 use Rattle.chart.proofs.Pruning.{prune-keeps}
 
 -- ---- conflicts
@@ -159,6 +159,13 @@ published-iff-member (pair o l r) t =
     pair-agrees o (Published l) (Published r) (Member l) (Member r) (published-iff-member l) (published-iff-member r) t
 published-iff-member (loop (each o) b) t = kleene-agrees o (Published b) (Member b) (published-iff-member b) t
 published-iff-member (loop head b) t = head-agrees (Published b) (Member b) (published-iff-member b) t
+
+-- ---- every chart has a log, of the published sets
+
+pub every-chart-has-a-published-log : (c : Chart) → (t : Log) × Published c t
+every-chart-has-a-published-log c =
+    let (t, m) = every-chart-has-a-log c in
+    (t, published-iff-member c t .1 m)
 
 -- ---- evading and pruning, of the published sets
 

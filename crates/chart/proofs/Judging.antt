@@ -10,7 +10,7 @@ use native.Mathlib.Omega.{arith}
 use mathlib.Core.Bool.{Bool, true, false, not}
 use mathlib.Core.List.{[], _∷_, _++_, append-nil}
 use mathlib.Core.Logic.{_↔_, _≢_, Iff·symm, Iff·trans}
-use mathlib.Core.Path.{_≡_, refl, sym, subst}
+use mathlib.Core.Path.{_≡_, refl, sym, ap, subst, _∙_}
 use lib.Dec.{T, ltb, ltb→lt, nltb→le}
 use lib.ListN.{length, take}
 use lib.Seq.{take-length}
@@ -128,12 +128,24 @@ module _ (M : Traces) (t : Log) where
   deviates-place (accepted run) s p k e = absurd (twenty-two-deviates (length t) s p (accepted run) .0 e)
   deviates-place (refused d run) s p k e = k .refuses
 
--- ---- the figures
+-- ---- a log that begins none
 
-pub verdict-figures : (long : ℕ) (o : Outcome) (s p : ℕ)
-    → (verdict long o s p .steps ≡ s) × (verdict long o s p .places ≡ p)
-verdict-figures long (accepted run) s p = (refl, refl)
-verdict-figures long (refused d run) s p = (refl, refl)
+-- Nothing begins with a log exactly if neither it nor a longer one belongs.
+pub begins-none-iff : (M : Traces) (t : Log) → (¬ Begins M t) ↔ ((¬ M t) × (¬ Longer M t))
+begins-none-iff M t = (
+  λ none. (λ m. none ([], subst M (sym (append-nil t)) m), λ (a, u, m). none (a ∷ u, m)),
+  λ (not, longer) (u, m). by not longer u m,
+)
+  where
+    by : ¬ M t → ¬ Longer M t → (u : Log) → M (t ++ u) → ⊥
+    by not longer [] m = not (subst M (append-nil t) m)
+    by not longer (a ∷ u) m = longer (a, u, m)
+
+-- The longest opening of a log that begins none is shorter than the log.
+pub longest-is-shorter : (M : Traces) (t : Log) {n : ℕ} → Longest M t n → ¬ Begins M t → n < length t
+longest-is-shorter M t {n} longest none = lt-of-not-le λ all.
+    let whole : n ≡ length t = le-antisymm (longest .within) all in
+    none (subst (Begins M) (ap (λ m. take m t) whole ∙ take-length t) (longest .opens))
 
 -- ---- the search decides the published set
 

@@ -51,6 +51,13 @@ verdict-number long (refused deepest run) s p = unaccepted-number (ltb deepest l
 number-is : {q r : Answer} → q ≡ r → q .number ≡ r .number
 number-is e = ap (λ (a : Answer). a .number) e
 
+-- ---- the figures of a verdict
+
+pub verdict-figures : (long : ℕ) (o : Outcome) (s p : ℕ)
+    → (verdict long o s p .steps ≡ s) × (verdict long o s p .places ≡ p)
+verdict-figures long (accepted run) s p = (refl, refl)
+verdict-figures long (refused d run) s p = (refl, refl)
+
 -- ---- runs
 
 -- the chart is within the most places, and so is each follow-up that was made
@@ -233,3 +240,20 @@ module _ (c : Chart) (t : Log) (allowance room : ℕ) where
       tells (reached h e) = inl (is-verdict e)
       tells (nine h e) = inr (inl (number-is e))
       tells (ten k h e) = inr (inr (number-is e))
+
+  -- ---- figures
+
+  -- No answer has more steps than the allowance, nor more places than the room.
+  pub within-the-lending : (given .steps ≤ allowance) × (given .places ≤ room)
+  within-the-lending = tells answer-case
+    where
+      Within : Answer → Type 0
+      Within q = (q .steps ≤ allowance) × (q .places ≤ room)
+
+      tells : {q : Answer} → Case q → Within q
+      tells (too-large h e) = subst Within (sym e) (zero-le, zero-le)
+      tells (reached (steps, places) e) =
+          let (s, p) = verdict-figures (length t) (searched c t) (stepsOf c t) (placesOf c t) in
+          subst Within (sym e) (rw s steps, rw p places)
+      tells (nine h e) = subst Within (sym e) (le-refl allowance, h .within)
+      tells (ten k h e) = subst Within (sym e) (omega (arith, h .unspent), h .wants .within)

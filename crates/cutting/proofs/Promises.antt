@@ -1,4 +1,4 @@
--- The customer's demands on a cut, for the bytes that are lent. Each theorem stands under the sentence that it keeps,
+-- The customer's demands (00) on a cut, for the bytes that are lent. Each theorem stands under the sentence that it keeps,
 -- and only cites others.
 --
 -- `cut` returns `cutting` of card, lifeline and the output's length, and leaves `outAfter` of card, lifeline and
@@ -59,7 +59,7 @@ module _ (card : List ℕ) (lifeline : ℕ) (out : List ℕ) where
 
   -- ---- Demand 1: one answer, and what is left of the output
 
-  -- "Every card .. gets exactly one numbered answer": 0 to 6, or 11 to 13;
+  -- "Every card .., sound or spoiled, gets exactly one numbered answer": 0 to 6, or 11 to 13;
   pub every-input-gets-a-number : (given .number ≤ 6) ⊎ ((11 ≤ given .number) × (given .number ≤ 13))
   every-input-gets-a-number = number-of-any card lifeline out
 
@@ -68,7 +68,7 @@ module _ (card : List ℕ) (lifeline : ℕ) (out : List ℕ) where
       → Cuts card lifeline out s two → (r ≡ s) × (one ≡ two)
   no-second-answer (r, one) (s, two) = (r ∙ sym s, one ∙ sym two)
 
-  -- "The tool does its own checking": each number and place exactly as 01's table tells, "1 to 6, 11, 12, 13",
+  -- "and the tool does its own checking": each number and place exactly as 01's table tells, "1 to 6, 11, 12, 13",
   pub given-exactly-as-the-table-tells : (number place : ℕ)
       → ((given .number ≡ number) × (given .place ≡ place)) ↔ CutTold card lifeline (length out) number place
   given-exactly-as-the-table-tells number place =
@@ -91,7 +91,7 @@ module _ (card : List ℕ) (lifeline : ℕ) (out : List ℕ) where
 
   -- ---- Demand 2: what a cut keeps
 
-  -- "and is refused for want of one exactly if there is none": of a sound card and a declared lifeline.
+  -- "and is refused for want of such a log exactly if there is none": of a sound card and a declared lifeline.
   pub refused-for-want-of-one-exactly-if-there-is-none :
       (given .number ≡ 12) ↔ (Sound card × (¬ NotDeclared card lifeline) × NeverAvoided card lifeline)
   refused-for-want-of-one-exactly-if-there-is-none = twelve-iff card lifeline out
@@ -141,7 +141,7 @@ module _ (card : List ℕ) (lifeline : ℕ) (out : List ℕ) where
         subst (λ bytes. cardRow bytes ≡ written 0 (cardChart bytes)) (sym same)
         (cut-in-order card lifeline (length out) all)
 
-    -- "A cut keeps exactly the logs in which the device never acts."
+    -- "Cutting a device out of a chart keeps exactly the logs in which it never acts."
     pub keeps-exactly-the-logs-without-the-device : (t : Log)
         → Published (cardChart result) t ↔ (Published (cardChart card) t × Avoids lifeline t)
     keeps-exactly-the-logs-without-the-device t =

@@ -3,4 +3,5 @@ pub mod Refusing
 pub mod Telling
 pub mod Numbers
 pub mod Wiped
+pub mod Example
 pub mod Promises

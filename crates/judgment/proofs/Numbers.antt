@@ -1,7 +1,7 @@
 -- Which numbers a judgment gives: 1 to 8 exactly where card or log are refused, and 9, 10 or a verdict exactly where
 -- they are not. A card and a log are one or the other, and the numbers tell them apart.
 -- Assumes nothing.
-use Prim.Native.Nat.{ℕ, _%_, _<_, _≤_}
+use Prim.Native.Nat.{ℕ, _%_, _<_, _≤_, zero-le}
 use mathlib.Core.List.{List}
 use mathlib.Core.Logic.{_↔_, _⊎_, inl, inr}
 use mathlib.Core.Path.{_≡_, sym, ap}
@@ -9,7 +9,7 @@ use native.Mathlib.Decide.{ℕ-discrete}
 use native.Mathlib.Omega.{arith}
 use lib.ListN.{length}
 use Rattle.chart.specs.Reaching.{Verdict}
-use Rattle.chart.proofs.Demands.{verdict-or-nine-or-ten}
+use Rattle.chart.proofs.Demands.{verdict-or-nine-or-ten, never-above-the-lending}
 use Rattle.card.specs.Nodes.{cardChart}
 use Rattle.card.proofs.Promises.{every-card-gets-a-number, given-exactly-as-the-table-tells}
 use Rattle.log.specs.Bytes.{logOf}
@@ -107,3 +107,13 @@ module _ (card log : List ℕ) (allowance : ℕ) (room : List ℕ) where
 
   pub refused-room : given .number ≤ 8 → roomAfter card log room ≡ room
   refused-room h = sym (refused-judges card log allowance room (refused-there h) .1)
+
+  -- Nothing is refused with figures, and the answer to a sound card and log is within the lending.
+  pub figures-within : (given .steps ≤ allowance) × (given .places ≤ usable (length room))
+  figures-within = by (looked-at card log)
+    where
+      by : Looked-at card log → (given .steps ≤ allowance) × (given .places ≤ usable (length room))
+      by (is-refused number place r) = let same = refused-given r in rw same (zero-le, zero-le)
+      by (is-sound s) =
+          rw (sound-judges card log allowance room s .0)
+          (never-above-the-lending (cardChart card) (logOf log) allowance (usable (length room)))

@@ -1,5 +1,5 @@
--- The customer's demands, for the bytes that are lent. Each theorem stands under the sentence that it keeps, and only
--- cites others.
+-- The customer's demands (00), for the bytes that are lent. Each theorem stands under the sentence that it keeps, and
+-- only cites others.
 --
 -- `judge` returns `judgment` of card, log, allowance and the room's length, and leaves `roomAfter` of card, log and
 -- room: that is its contract (judge/src/lib.rt), and `Judges` its two equations. What is said here of the two
@@ -29,7 +29,7 @@ use Rattle.judgment.specs.declared.Judged.{Judged}
 use Rattle.judgment.specs.Judgment.{usable, judgedOf, judgment, roomAfter, Judges}
 use Rattle.judgment.specs.Table.{Refused, SoundBoth}
 use Rattle.judgment.proofs.Telling.{sound-judges}
-use Rattle.judgment.proofs.Numbers.{number-of-any, refused-iff, sound-iff, refused-figures, refused-room, whole-log}
+use Rattle.judgment.proofs.Numbers.{number-of-any, refused-iff, sound-iff, refused-figures, refused-room, figures-within, whole-log}
 use Rattle.judgment.proofs.Wiped.{zeros-inside, kept-beyond, same-length}
 
 module _ (card log : List ℕ) (allowance : ℕ) (room : List ℕ) where
@@ -48,7 +48,8 @@ module _ (card log : List ℕ) (allowance : ℕ) (room : List ℕ) where
 
   -- ---- Demand 1: one answer, and what is left of the room
 
-  -- "Every card, log, allowance and room, sound or spoiled, gets exactly one numbered answer": 1 to 10, 20, 21 or 22;
+  -- "Every card, log, allowance and working room, sound or spoiled, gets exactly one numbered answer": 1 to 10, 20, 21
+  -- or 22;
   pub every-input-gets-a-number : ((1 ≤ given .number) × (given .number ≤ 10)) ⊎ Verdict (given .number)
   every-input-gets-a-number = number-of-any card log allowance room
 
@@ -57,7 +58,7 @@ module _ (card log : List ℕ) (allowance : ℕ) (room : List ℕ) where
       → Judges card log allowance room s later → (r ≡ s) × (after ≡ later)
   no-second-answer (r, after) (s, later) = (r ∙ sym s, after ∙ sym later)
 
-  -- "The tool does its own checking": 1 to 8 are given exactly as 01's table tells,
+  -- "and the tool does its own checking": 1 to 8 are given exactly as 01's table tells,
   pub refused-exactly-as-the-table-tells : (number place : ℕ)
       → ((number ≤ 8) × (given .number ≡ number) × (given .place ≡ place)) ↔ Refused card log number place
   refused-exactly-as-the-table-tells = refused-iff card log allowance room
@@ -106,25 +107,35 @@ module _ (card log : List ℕ) (allowance : ℕ) (room : List ℕ) where
     reached : Reaches chart t allowance places
     reached = demands.verdict-exactly-when-reached chart t allowance places .0 (rw same at verdict)
 
-    -- "A verdict is "accepted" exactly if the log is in the chart's trace set as the published semantics composes it;
+    -- "When a verdict is given, it is accepted exactly if the log belongs to the chart's set of traces as the published
+    -- interaction semantics composes it."
     pub accepted-exactly-if-published : (given .number ≡ 20) ↔ Published chart t
     accepted-exactly-if-published = rw same (demands.accepted-exactly-if-published chart t allowance places reached)
 
-    -- "short" exactly if not but some longer log beginning with it is;
+    -- "It is short exactly if it does not belong but some longer log beginning with it does."
     pub short-exactly-if-only-a-longer-log-is :
         (given .number ≡ 21) ↔ ((¬ Published chart t) × Longer (Published chart) t)
     short-exactly-if-only-a-longer-log-is =
         rw same (demands.short-exactly-if-only-a-longer-log-is chart t allowance places reached)
 
-    -- else it deviates,
+    -- "Otherwise it deviates": no log of the chart begins with it,
     pub deviates-exactly-if-it-begins-none : (given .number ≡ 22) ↔ (¬ Begins (Published chart) t)
     deviates-exactly-if-it-begins-none =
         rw same (demands.deviates-exactly-if-it-begins-none chart t allowance places reached)
 
-    -- at the length of its longest opening that begins some log of the chart."
+    -- which is neither accepted nor short,
+    pub otherwise-it-deviates : (given .number ≡ 22) ↔ ((¬ Published chart t) × (¬ Longer (Published chart) t))
+    otherwise-it-deviates = rw same (demands.otherwise-it-deviates chart t allowance places reached)
+
+    -- "and the place is the length of its longest opening with which some log of the chart begins",
     pub deviates-at-the-longest-opening : given .number ≡ 22 → Longest (Published chart) t (given .place)
     deviates-at-the-longest-opening =
         rw same (demands.deviates-at-the-longest-opening chart t allowance places)
+
+    -- which is less than the number of its actions.
+    pub deviates-before-the-end : given .number ≡ 22 → given .place < actionsOf log
+    deviates-before-the-end =
+        rw (← as-many-actions log, same) (demands.deviates-before-the-end chart t allowance places)
 
     -- 01, Verdicts and numbers given: 20 and 21 give the log's length in actions.
     pub accepted-gives-the-length : given .number ≡ 20 → given .place ≡ actionsOf log
@@ -137,13 +148,13 @@ module _ (card log : List ℕ) (allowance : ℕ) (room : List ℕ) where
 
     -- ---- Demand 3: steps and places
 
-    -- "Chart and log fix a number of steps and of places." They are `stepsOf` and `placesOf`: no lending stands in
-    -- them.
+    -- "For each sound chart and log the written search rules fix a number of steps and a number of places." They are
+    -- `stepsOf` and `placesOf`: no lending stands in them.
     -- The verdict has them,
     pub verdict-has-the-figures : (given .steps ≡ stepsOf chart t) × (given .places ≡ placesOf chart t)
     verdict-has-the-figures = rw same (demands.verdict-has-the-figures chart t allowance places reached)
 
-    -- "and is then the same whatever more is lent."
+    -- "and is then the same with the same two figures, however much more is lent."
     pub same-whatever-more-is-lent : (more : ℕ) (larger : List ℕ) → allowance ≤ more → length room ≤ length larger
         → judgment card log more (length larger) ≡ given
     same-whatever-more-is-lent more larger h k =
@@ -154,7 +165,7 @@ module _ (card log : List ℕ) (allowance : ℕ) (room : List ℕ) where
         (sym (demands.same-whatever-more-is-lent chart t allowance places more (usable (length larger)) reached all))
         ∙ sym same
 
-  -- "A verdict comes exactly when allowance and usable room reach them": of a sound card and log.
+  -- "A verdict comes exactly when the allowance and the usable room reach these two": of a sound card and log.
   pub verdict-exactly-when-reached : Verdict (given .number) ↔ (SoundBoth card log × Reaches chart t allowance places)
   verdict-exactly-when-reached = (
     λ v. (verdict-only-for-sound-input v, reached v),
@@ -193,8 +204,12 @@ module _ (card log : List ℕ) (allowance : ℕ) (room : List ℕ) where
     ten-has-the-figures-reached k h =
         same-answer ∙ ap judgedOf (demands.ten-has-the-figures-reached chart t allowance places k h)
 
-  -- "Once a log deviates, every sound longer log beginning with it gets the same verdict, place and figures", whatever
-  -- is lent.
+  -- No answer, whichever it is, has more steps than the allowance, nor more places than the usable room.
+  pub never-above-the-lending : (given .steps ≤ allowance) × (given .places ≤ places)
+  never-above-the-lending = figures-within card log allowance room
+
+  -- "Once a log deviates, every sound longer log beginning with it gets the same verdict, place and figures from the same
+  -- lending", whatever that is.
   pub once-deviating-the-same-for-ever : given .number ≡ 22 → (more : List ℕ) → SoundBoth card (log ++ more)
       → (lent : ℕ) (lentRoom : List ℕ)
       → judgment card (log ++ more) lent (length lentRoom) ≡ judgment card log lent (length lentRoom)
@@ -208,3 +223,7 @@ module _ (card log : List ℕ) (allowance : ℕ) (room : List ℕ) where
       (demands.once-deviating-the-same-for-ever chart t allowance places (rw (same v) at e) (logOf more) lent
       (usable (length lentRoom)))
       ∙ sym (sound-judges card log lent lentRoom sound .0)
+
+-- "Every chart has at least one log" (01, Which logs belong to a chart): that of a card, too.
+pub every-card-has-a-log : (card : List ℕ) → (t : Log) × Published (cardChart card) t
+every-card-has-a-log card = demands.every-chart-has-a-log (cardChart card)
