@@ -2,7 +2,7 @@
 -- pruning answered: the chart has at most 255 nodes, and what pruning takes anew is no more.
 -- Assumes nothing.
 use Prim.Native.Nat.{ℕ, _<_, _≤_}
-use mathlib.Core.Bool.{true, false}
+use mathlib.Core.Bool.{true}
 use mathlib.Core.List.{List}
 use mathlib.Core.Path.{_≡_, ap, sym, _∙_}
 use native.Mathlib.Omega.{arith}
@@ -12,9 +12,11 @@ use Rattle.chart.specs.Executing.{evades, prune, chartOf}
 use Rattle.chart.proofs.Shrinking.{pruned-costs-at-most-the-chart}
 use Rattle.card.specs.Parts.{lifelinesOf, messagesOf}
 use Rattle.card.specs.Nodes.{cardChart}
+use Rattle.card.specs.Checking.{rule}
 use Rattle.card.specs.Table.{Sound}
 use Rattle.card.proofs.Telling.{sound→faultless}
 use Rattle.room.specs.declared.Root.{Root}
+use Rattle.room.specs.declared.Pruned.{Pruned}
 use Rattle.room.specs.declared.Pruned.the-variants.{Part, Nothing}
 use Rattle.room.specs.Room.{chartIn, Table, Rooted}
 use Rattle.room.specs.Building.{Prunes}
@@ -31,6 +33,7 @@ use Rattle.laying.proofs.Onward.{
 }
 use Rattle.writing.specs.Cards.{cardBytes, Holds}
 use Rattle.cutting.specs.Cutting.{leftOver}
+use Rattle.cut.specs.Found.{findingOf}
 use Rattle.cutting.proofs.Holding.{few-nodes, left-over-held}
 
 -- What is left of a card's chart stands at a place.
@@ -64,13 +67,17 @@ module _ (card : List ℕ) (sound : Sound card) where
       full-length : length full ≡ 510
       full-length = ap length there ∙ whole-keeps-the-length card room sound usable root laid ∙ long
 
-      -- nothing is left of a chart that does not evade the lifeline,
-      pub nothing-left :
-          (after : List ℕ) → Prunes full (root .used) (chartIn full (root .place)) lifeline after Nothing
-          → evades (cardChart card) lifeline ≡ false
-      nothing-left after (lost, keeps) = sym (ap (λ c. evades c lifeline) whole-chart) ∙ lost
+      -- what pruning answers is what the cut is found to be by its second test,
+      pub found-by-pruning :
+          (after : List ℕ) (pruned : Pruned)
+          → Prunes full (root .used) (chartIn full (root .place)) lifeline after pruned
+          → rule 12 (evades (cardChart card) lifeline) ≡ findingOf pruned
+      found-by-pruning after (Part part) (evading, built) =
+          ap (rule 12) (sym (ap (λ c. evades c lifeline) whole-chart) ∙ evading)
+      found-by-pruning after Nothing (lost, keeps) =
+          ap (rule 12) (sym (ap (λ c. evades c lifeline) whole-chart) ∙ lost)
 
-      -- and what is left of one that does stands at the root that pruning answered.
+      -- and what is left of the chart stands at the root that pruning answered.
       module _ (after : List ℕ) (part : Root)
           (pruned : Prunes full (root .used) (chartIn full (root .place)) lifeline after (Part part)) where
         inside : part .used ≤ length after

@@ -11,10 +11,10 @@ use lib.ListN.{length, drop}
 use borrow.Author.Tests.{lt-ltb, le-ltb, lt-leb, le-leb}
 use Rattle.chart.specs.Executing.{evades}
 use Rattle.card.specs.declared.Checked.{Checked}
-use Rattle.card.specs.declared.Finding.the-variants.{Fine}
+use Rattle.card.specs.declared.Finding.the-variants.{Fine, Refused}
 use Rattle.card.specs.Parts.{lifelinesOf, messagesOf}
 use Rattle.card.specs.Nodes.{cardChart}
-use Rattle.card.specs.Checking.{checking}
+use Rattle.card.specs.Checking.{checking, rule}
 use Rattle.card.specs.Table.{Sound}
 use Rattle.card.proofs.Answers.{refused-so-found}
 use Rattle.card.proofs.Telling.{sound→nothing-found}
@@ -41,7 +41,8 @@ module _ (card : List ℕ) (lifeline : ℕ) (out : List ℕ) where
 
     module _ (declared : lifeline < lifelinesOf card) where
       -- 12.
-      pub never-avoided : evades (cardChart card) lifeline ≡ false → Cuts card lifeline out (refusedAt 12 0) out
+      pub never-avoided : {number place : ℕ} → rule 12 (evades (cardChart card) lifeline) ≡ Refused number place
+          → Cuts card lifeline out (refusedAt number place) out
       unfolding cutting outAfter
       never-avoided e =
           rw (sound→nothing-found card sound, lt-ltb lifeline (lifelinesOf card) declared, e) (refl, refl)

@@ -16,7 +16,7 @@ use Rattle.chart.specs.Executing.{evades}
 use Rattle.chart.proofs.Agreement.{evades-iff-some-published-log-avoids}
 use Rattle.card.specs.Parts.{lifelinesOf}
 use Rattle.card.specs.Nodes.{cardChart}
-use Rattle.card.specs.Checking.{checking}
+use Rattle.card.specs.Checking.{checking, rule}
 use Rattle.card.specs.Table.{Sound}
 use Rattle.card.proofs.Decided.{Decided, by-ltb, if-not, if-so}
 use Rattle.card.proofs.Deciding.{same-lifelines, at-least-six}
@@ -106,7 +106,7 @@ module _ (card : List ℕ) (lifeline : ℕ) where
         Sound card → ¬ NotDeclared card lifeline → NeverAvoided card lifeline
         → Cuts card lifeline out (refusedAt 12 0) out
     never-when sound d never =
-        never-avoided card lifeline out sound (declared sound d) (if-so avoided-decided never)
+        never-avoided card lifeline out sound (declared sound d) (ap (rule 12) (if-so avoided-decided never))
 
     undeclared-when : Sound card → NotDeclared card lifeline → Cuts card lifeline out (refusedAt 11 0) out
     undeclared-when sound d = not-declared card lifeline out sound (undeclared sound d)

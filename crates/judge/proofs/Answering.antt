@@ -8,15 +8,16 @@ use lib.ListN.{length}
 use borrow.Author.Tests.{lt-ltb, le-ltb}
 use Rattle.chart.specs.Action.{Log}
 use Rattle.chart.specs.Chart.{Chart, size}
-use Rattle.chart.specs.Lending.{halted, told, walk, answer}
+use Rattle.chart.specs.Lending.{Answer, halted, told, walk, answer}
 use Rattle.card.specs.Nodes.{cardChart}
 use Rattle.card.specs.Table.{Sound}
 use Rattle.log.specs.Bytes.{logOf, actionsOf}
 use Rattle.log.proofs.Actions.{as-many-actions}
 use Rattle.room.specs.declared.Root.{Root}
 use Rattle.room.specs.Room.{chartIn, Table, Rooted}
+use Rattle.laying.specs.declared.Laid.{Laid}
 use Rattle.laying.specs.declared.Laid.the-variants.{Whole, TooLittle}
-use Rattle.laying.specs.Rooms.{laying, laidIn}
+use Rattle.laying.specs.Rooms.{laying, laidIn, findingOf}
 use Rattle.laying.proofs.Onward.{
   too-little-exceeds,
   whole-fits,
@@ -27,6 +28,7 @@ use Rattle.laying.proofs.Onward.{
   whole-is-rooted,
   whole-stands,
 }
+use Rattle.judgment.specs.Judgment.{judgedOf, returned}
 use Rattle.searching.specs.declared.Ended.{Ended}
 use Rattle.searching.specs.Ending.{endingOf, Searches}
 
@@ -42,11 +44,22 @@ unfolding answer
 fitting-answer c t allowance room h = rw (le-ltb room (size c) h)
 
 module _ (card log room : List ℕ) (allowance : ℕ) (sound : Sound card) where
-  -- There was too little room.
-  pub too-little-answers : TooLittle ≡ laying card room
-      → answer (cardChart card) (logOf log) allowance (length room) ≡ halted 10 0 0
-  too-little-answers laid =
-      exceeding-answer (cardChart card) (logOf log) allowance (length room) (too-little-exceeds card room sound laid)
+  -- What is returned is what laying the chart found, else what is told of the search.
+  abbrev searched : Answer
+  searched =
+      let t = logOf log in
+      let c = cardChart card in
+      told (length t) (walk allowance (length room) t c (size c) 0 (size c))
+
+  pub returned-by-laying : length room ≤ 16384 → (laid : Laid) → laid ≡ laying card room
+      → judgedOf (answer (cardChart card) (logOf log) allowance (length room)) ≡ returned (findingOf laid) searched
+  returned-by-laying usable TooLittle laid =
+      ap judgedOf
+      (exceeding-answer (cardChart card) (logOf log) allowance (length room) (too-little-exceeds card room sound laid))
+  returned-by-laying usable (Whole root) laid =
+      ap judgedOf
+      (fitting-answer (cardChart card) (logOf log) allowance (length room)
+      (whole-fits card room sound usable root laid))
 
   module _ (usable : length room ≤ 16384) (root : Root) (laid : Whole root ≡ laying card room) (after : List ℕ)
       (there : after ≡ laidIn card room) where

@@ -6,6 +6,8 @@ use mathlib.Core.List.{List, map, _++_}
 use lib.Dec.{ltb}
 use lib.ListN.{length, drop}
 use Rattle.node.specs.Place.{wordOf}
+use Rattle.card.specs.declared.Finding.{Finding}
+use Rattle.card.specs.declared.Finding.the-variants.{Fine, Refused}
 use Rattle.card.specs.Parts.{nodesOf}
 use Rattle.card.specs.Nodes.{countOf, rowTo}
 use Rattle.laying.specs.declared.Laid.{Laid}
@@ -30,3 +32,8 @@ laying card room = cond (exceeds card room) TooLittle (Whole (record { place = t
 -- The room afterwards; a room that the chart exceeds is left as it was.
 abbrev pub laidIn : List ℕ → List ℕ → List ℕ
 laidIn card room = cond (exceeds card room) room (placed (nodesOf card) (taken card) room)
+
+-- What is found by laying: "10 | the chart .. exceeds the usable room | 0" (01, Verdicts and numbers given).
+abbrev pub findingOf : Laid → Finding
+findingOf (Whole root) = Fine
+findingOf TooLittle = Refused 10 0

@@ -6,10 +6,11 @@ use native.Mathlib.Omega.{arith}
 use borrow.Author.Needs.{needs}
 use lib.ListN.{length}
 use Rattle.writing.specs.Cards.{cardBytes}
+use Rattle.room.specs.declared.Pruned.the-variants.{Nothing}
 use Rattle.cut.proofs.Leaving.{
   few-places,
   asks-pruning,
-  nothing-left,
+  found-by-pruning,
   Left,
   part-left,
   asks-counting,
@@ -77,8 +78,8 @@ returns c =
     let lost = rw (after-enum-told .enum-told .given .1) at (after-prune .prune .ensures) in
     let (answer, out) =
     never-avoided (s .card .now) (s .lifeline) (s .out .now) sound declared
-    (nothing-left (s .card .now) sound (s .lifeline) (s .room .now) long (laid .result) (laid .ensures .0)
-    (laid .last .1 .0) (laid .ensures .1) (after-prune .prune .last .0) lost) in
+    (found-by-pruning (s .card .now) sound (s .lifeline) (s .room .now) long (laid .result) (laid .ensures .0)
+    (laid .last .1 .0) (laid .ensures .1) (after-prune .prune .last .0) Nothing lost) in
     (c .refused .ensures ∙ answer, out)
 
 card-bytes-requires : tie.Need-card-bytes-requires

@@ -3,7 +3,8 @@
 use mathlib.Core.Path.{sym, ap, _∙_}
 use native.Mathlib.Omega.{arith}
 use Rattle.judgment.specs.Judgment.{judgedOf}
-use Rattle.judge.proofs.Answering.{too-little-answers, laid-stands, search-answers}
+use Rattle.laying.specs.declared.Laid.the-variants.{TooLittle}
+use Rattle.judge.proofs.Answering.{returned-by-laying, laid-stands, search-answers}
 use Rattle.judge.proofs.answer_in.Statement.{statement}
 use Rattle.judge.proofs.answer_in.Tie as tie
 
@@ -26,10 +27,10 @@ returns : tie.Need-returns
 returns c =
     let s = c .before .before .before .before .before .before .before .before .before .before in
     c .refused .ensures
-    ∙ ap judgedOf
-    (sym
-    (too-little-answers (s .args .card .now) (s .args .log .now) (s .args .room .now) (s .args .allowance) (s .pre .0)
-    (sym (c .before .enum-told .given .1) ∙ c .before .before .before .before .before .lay .ensures .0)))
+    ∙ sym
+    (returned-by-laying (s .args .card .now) (s .args .log .now) (s .args .room .now) (s .args .allowance) (s .pre .0)
+    (s .pre .2) TooLittle
+    (sym (c .before .enum-told .given .1) ∙ c .before .before .before .before .before .lay .ensures .0))
 
 search-requires : tie.Need-search-requires
 search-requires c κs =

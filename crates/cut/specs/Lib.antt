@@ -1,0 +1,2 @@
+-- What pruning means for a cut.
+pub mod Found
