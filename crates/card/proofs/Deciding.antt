@@ -2,7 +2,7 @@
 -- bytes of the card, and joined tests decide joined conditions.
 -- Assumes nothing.
 use Prim.Native.Nat.{ℕ, zero, suc, _+_, _-_, _*_, _%_, _<_, _≤_}
-use mathlib.Core.List.{List}
+use mathlib.Core.List.{List, [], _∷_}
 use mathlib.Core.Logic.{_≢_, _⊎_, inl, inr}
 use mathlib.Core.Path.{_≡_, refl, sym, _∙_, ap}
 use native.Mathlib.Nat.{add-zero}
@@ -11,15 +11,17 @@ use lib.Dec.{eqb}
 use lib.ListN.{length, getD, drop}
 use lib.Seq.{getD-take, getD-drop}
 use Rattle.node.specs.Row.{uses}
+use Rattle.node.proofs.Rows.{uses-append}
 use Rattle.card.specs.Parts.{trailerByte, trailerAt, firstAt, backOf, lifelinesOf, messagesOf, nodesOf}
-use Rattle.card.specs.Nodes.{countOf, nodeAt, spareAt, cardRow}
+use Rattle.card.specs.Nodes.{countOf, nodeAt, spareAt, rowTo, cardRow}
 use Rattle.card.specs.Findings.{framed, backInRule, countsInRange, inOrder}
 use Rattle.card.specs.Table.{byte, NoCard, BackOut, CountsOut, FaultAt, MisuseAt}
-use Rattle.card.specs.Table.{back, lifelines, messages, count, field}
+use Rattle.card.specs.Table.{back, lifelines, messages, count, field, childIn, childOfFirst}
 use Rattle.card.proofs.Trailers.{trailer-there}
 use Rattle.card.proofs.Relied.{InRule, length-nodes}
 use Rattle.card.proofs.Decided.{Decided, by-leb, by-eqb, by-both, regroup, in-words}
 use Rattle.card.proofs.Orderly.{order-decided}
+use Rattle.card.proofs.Children.{child-in-a-node}
 
 -- Byte k of the trailer is byte m from the end.
 from-the-end : (card : List ℕ) (k m : ℕ) → 6 ≤ length card → k + m ≡ 6
@@ -85,6 +87,9 @@ module _ (card : List ℕ) (long : 6 ≤ length card) where
         ∙ getD-drop (firstAt card) card (i * 4 + k) 0
         ∙ ap (λ b. byte card (trailerAt card - b + (i * 4 + k))) same-back
 
+    same-kind : (i : ℕ) → i < count card → nodeAt (nodesOf card) i .kind ≡ field card i 0
+    same-kind i h = ap (λ k. getD (nodesOf card) k 0) (sym (add-zero (i * 4))) ∙ same-field i 0 h (omega arith)
+
     -- 4
     pub fault-decided :
         (i : ℕ) → i < count card
@@ -92,27 +97,48 @@ module _ (card : List ℕ) (long : 6 ≤ length card) where
         (spareAt (nodesOf card) i)) (FaultAt card i)
     fault-decided i h =
         let nodes = nodesOf card in
-        let kind : nodeAt nodes i .kind ≡ field card i 0 = ap (λ k. getD nodes k 0) (sym (add-zero (i * 4)))
-        ∙ same-field i 0 h (omega arith) in
         rw (
           ← same-lifelines,
           ← same-messages,
-          ← kind,
+          ← same-kind i h,
           ← same-field i 1 h (omega arith),
           ← same-field i 2 h (omega arith),
           ← same-field i 3 h (omega arith),
         )
         (order-decided (lifelinesOf card) (messagesOf card) i (nodeAt nodes i) (spareAt nodes i))
 
--- 5
-pub misuse-decided : (card : List ℕ) (j : ℕ) → Decided (eqb (uses (cardRow card) j) 1) (MisuseAt card j)
-misuse-decided card j = in-words (other (uses (cardRow card) j)) (not-one (uses (cardRow card) j))
-    (by-eqb (uses (cardRow card) j) 1)
-  where
-    other : (n : ℕ) → n ≢ 1 → n ≡ 0 ⊎ 1 < n
-    other zero h = inl refl
-    other (suc n) h = inr (omega arith)
+    -- 5: a child is counted as often in the row of nodes as in the card's bytes.
+    counted-alike : (j n : ℕ) → n ≤ count card → uses (rowTo (nodesOf card) n) j ≡ childOfFirst card j n
+    counted-alike j zero h = refl
+    counted-alike j (suc i) h =
+        let node = nodeAt (nodesOf card) i in
+        let here : (childIn (node .kind) (node .a) (node .b) j
+        ≡ childIn (field card i 0) (field card i 1) (field card i 2) j)
+        = rw (
+          same-kind i (omega arith),
+          same-field i 1 (omega arith) (omega arith),
+          same-field i 2 (omega arith) (omega arith),
+        ) in
+        omega (
+          arith,
+          uses-append (rowTo (nodesOf card) i) (node ∷ []) j,
+          counted-alike j i (omega arith),
+          child-in-a-node node j,
+          here,
+        )
 
-    not-one : (n : ℕ) → n ≡ 0 ⊎ 1 < n → n ≢ 1
-    not-one n (inl h) e = omega arith
-    not-one n (inr h) e = omega arith
+    pub misuse-decided : (j : ℕ) → Decided (eqb (uses (cardRow card) j) 1) (MisuseAt card j)
+    misuse-decided j =
+        let alike : uses (cardRow card) j ≡ childOfFirst card j (count card)
+        = ap (λ n. uses (rowTo (nodesOf card) n) j) same-count ∙ counted-alike j (count card) (omega arith) in
+        rw alike
+        (in-words (other (childOfFirst card j (count card))) (not-one (childOfFirst card j (count card)))
+        (by-eqb (childOfFirst card j (count card)) 1))
+      where
+        other : (n : ℕ) → n ≢ 1 → n ≡ 0 ⊎ 1 < n
+        other zero h = inl refl
+        other (suc n) h = inr (omega arith)
+
+        not-one : (n : ℕ) → n ≡ 0 ⊎ 1 < n → n ≢ 1
+        not-one n (inl h) e = omega arith
+        not-one n (inr h) e = omega arith

@@ -6,6 +6,7 @@ pub mod Relied
 pub mod Answers
 pub mod Decided
 pub mod Orderly
+pub mod Children
 pub mod LowestAt
 pub mod Deciding
 pub mod Telling

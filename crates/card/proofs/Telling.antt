@@ -44,6 +44,10 @@ module _ (card : List ℕ) where
   abbrev nodes : List ℕ
   nodes = nodesOf card
 
+  -- Node j is a child once.
+  abbrev once : ℕ → Bool
+  once j = eqb (uses (cardRow card) j) 1
+
   long-of : ¬ NoCard card → 6 ≤ length card
   long-of = at-least-six card
 
@@ -77,12 +81,9 @@ module _ (card : List ℕ) where
     each-order-decided : (i : ℕ) → i < countOf nodes → Decided (orderly i) (FaultAt card i)
     each-order-decided i h = fault-decided card long rule i (omega (arith, counted-alike))
 
-  -- 5, decided for each node.
-  abbrev once : ℕ → Bool
-  once j = eqb (uses (cardRow card) j) 1
-
-  each-use-decided : (n j : ℕ) → j < n → Decided (once j) (MisuseAt card j)
-  each-use-decided n j h = misuse-decided card j
+    -- 5, decided for each node.
+    each-use-decided : (j : ℕ) → j < countOf nodes - 1 → Decided (once j) (MisuseAt card j)
+    each-use-decided j h = misuse-decided card long rule j
 
   pub no-fault : (o : Ordered card) → faulty (lifelinesOf card) (messagesOf card) nodes ≡ Fine
   no-fault o =
@@ -92,7 +93,7 @@ module _ (card : List ℕ) where
 
   pub no-misuse : (t : Tree card) → misused nodes ≡ Fine
   no-misuse t =
-      no-fault→fine 5 five-is-real once (MisuseAt card) (countOf nodes - 1) (each-use-decided (countOf nodes - 1))
+      no-fault→fine 5 five-is-real once (MisuseAt card) (countOf nodes - 1) (each-use-decided (t .ordered .trailed))
       (λ j h. t .once j (omega (arith, counted-alike (t .ordered .trailed))))
 
   -- Nothing refuses a sound card.
@@ -130,7 +131,7 @@ module _ (card : List ℕ) where
       let t = o .trailed in
       numbered
       (answer-five card (passed t) 5 j (no-fault o)
-      (lowest→refused 5 five-is-real once (MisuseAt card) (countOf nodes - 1) j (each-use-decided (countOf nodes - 1))
+      (lowest→refused 5 five-is-real once (MisuseAt card) (countOf nodes - 1) j (each-use-decided t)
       (rw (counted-alike t) l)))
   told→answer (six tree h) =
       let t = tree .ordered .trailed in
@@ -170,7 +171,7 @@ module _ (card : List ℕ) where
       → Told card (checking card .number) (checking card .place)
   by-four t (nowhere e none) =
       by-five (record { trailed = t; nodes = λ i h. none i (omega (arith, counted-alike t)) })
-      (look 5 five-is-real once (MisuseAt card) (countOf nodes - 1) (each-use-decided (countOf nodes - 1)))
+      (look 5 five-is-real once (MisuseAt card) (countOf nodes - 1) (each-use-decided t))
   by-four t (somewhere i e l) =
       answered (answer-four card (passed t) 4 i e) (four t (rw (counted-alike t) at l))
 
@@ -211,7 +212,8 @@ module _ (card : List ℕ) where
   pub sound→once : (s : Sound card) (j : ℕ) → j < countOf nodes - 1 → uses (cardRow card) j ≡ 1
   sound→once s j h =
       eqb-true (uses (cardRow card) j) 1
-      (if-not (misuse-decided card j) (s .tree .once j (omega (arith, counted-alike (s .tree .ordered .trailed)))))
+      (if-not (each-use-decided (s .tree .ordered .trailed) j h)
+      (s .tree .once j (omega (arith, counted-alike (s .tree .ordered .trailed)))))
 
   pub sound→faultless : Sound card → Faultless nodes
   sound→faultless s =

@@ -1,15 +1,16 @@
 -- Numbers 1 to 6 of the table in 01, "Verdicts and numbers given", a second time: as conditions on the bytes, in the
--- table's words and order, with nothing shared with `Checking` but the card's row of nodes and its chart.
+-- table's words and order. 1 to 5 share nothing with `Checking`; 6 shares the chart that the card is, and its depth.
 -- proofs/Telling.antt shows that both say the same.
 -- Assumes nothing.
-use Prim.Native.Nat.{ℕ, _+_, _-_, _*_, _/_, _%_, _<_, _≤_}
+use Prim.Native.Nat.{ℕ, zero, suc, _+_, _-_, _*_, _/_, _%_, _<_, _≤_}
+use mathlib.Core.Bool.{cond, _&&_}
 use mathlib.Core.List.{List}
 use mathlib.Core.Logic.{_≢_, _⊎_}
 use mathlib.Core.Path.{_≡_}
+use lib.Dec.{eqb, leb}
 use lib.ListN.{length, getD}
 use Rattle.chart.specs.Chart.{depth}
-use Rattle.node.specs.Row.{uses}
-use Rattle.card.specs.Nodes.{cardRow, cardChart}
+use Rattle.card.specs.Nodes.{cardChart}
 
 -- Byte k of the card.
 abbrev pub byte : List ℕ → ℕ → ℕ
@@ -74,9 +75,20 @@ abbrev pub FaultAt : List ℕ → ℕ → Type 0
 FaultAt card i =
     Fault (lifelines card) (messages card) i (field card i 0) (field card i 1) (field card i 2) (field card i 3)
 
+-- How often a node of that kind has j as a child: in a of kinds 3 to 10, in b of kinds 3 to 6 (01, The chart card).
+abbrev pub childIn : ℕ → ℕ → ℕ → ℕ → ℕ
+childIn kind a b j =
+    cond (leb 3 kind && leb kind 10) (cond (eqb a j) 1 0) 0 + cond (leb 3 kind && leb kind 6) (cond (eqb b j) 1 0) 0
+
+-- How often j is a child of the first n nodes of the card.
+abbrev pub childOfFirst : List ℕ → ℕ → ℕ → ℕ
+childOfFirst card j zero = 0
+childOfFirst card j (suc i) =
+    childOfFirst card j i + childIn (field card i 0) (field card i 1) (field card i 2) j
+
 -- 5: a node other than the root is a child zero times or more than once.
 abbrev pub MisuseAt : List ℕ → ℕ → Type 0
-MisuseAt card j = uses (cardRow card) j ≡ 0 ⊎ 1 < uses (cardRow card) j
+MisuseAt card j = childOfFirst card j (count card) ≡ 0 ⊎ 1 < childOfFirst card j (count card)
 
 -- 6: depth over 16.
 abbrev pub TooDeep : List ℕ → Type 0

@@ -1,5 +1,5 @@
 -- Charts of a row of nodes: one more node adds one chart and changes none before it; there are as many charts as nodes.
--- All by induction on the row, over any charts before it.
+-- All by induction on the row, over any charts before it. Last, how often a node is a child in a row of two parts.
 -- Assumes nothing.
 use Prim.Native.Nat.{ℕ, suc, _+_, _<_}
 use mathlib.Core.List.{List, [], _∷_, _++_}
@@ -13,7 +13,7 @@ use Rattle.node.specs.declared.Node.{Node}
 use Rattle.node.specs.Kind.{Kind, kindOf}
 use Rattle.node.specs.Kind.Pair.{composed, choice}
 use Rattle.node.specs.Kind.Kind.{nothing, action, pairs, loops, unknown}
-use Rattle.node.specs.Row.{stands, standsAs, chartsAfter, charts, children, childrenAs, highest, Below}
+use Rattle.node.specs.Row.{stands, standsAs, chartsAfter, charts, children, childrenAs, highest, uses, Below}
 
 pub chartsAfter-append :
     (before : List Chart) (row more : List Node)
@@ -106,3 +106,7 @@ pub depth-stands :
     (before : List Chart) (n : Node)
     → depth (stands before n) ≡ 1 + highest (λ j. depth (getD before j empty)) (children n)
 depth-stands before n = depth-as (kindOf (n .kind)) before n
+
+pub uses-append : (row more : List Node) (j : ℕ) → uses (row ++ more) j ≡ uses row j + uses more j
+uses-append [] more j = omega arith
+uses-append (n ∷ row) more j = omega (arith, uses-append row more j)

@@ -2,7 +2,7 @@
 -- Assumes nothing.
 use Prim.Native.Nat.{ℕ, _+_, _*_, _<_, _≤_}
 use mathlib.Core.Bool.{Bool, true, false, cond}
-use mathlib.Core.List.{List, [], _∷_, _++_}
+use mathlib.Core.List.{List, [], _∷_}
 use mathlib.Core.Path.{_≡_, refl, sym, _∙_}
 use native.Mathlib.Decide.{ℕ-discrete, decLt}
 use native.Mathlib.Numerals.{add-one}
@@ -15,6 +15,7 @@ use Rattle.node.specs.declared.Node.{Node}
 use Rattle.node.specs.Kind.{Kind, kindOf}
 use Rattle.node.specs.Kind.Kind.{nothing, action, pairs, loops, unknown}
 use Rattle.node.specs.Row.{children, childrenAs, times, uses, Below}
+use Rattle.node.proofs.Rows.{uses-append}
 use Rattle.card.proofs.Rows.{length-row}
 use Rattle.card.specs.Nodes.{nodeAt, rowTo}
 use Rattle.card.specs.Findings.{misuseOf}
@@ -49,10 +50,6 @@ one-more-each-at counts [] j h = omega arith
 one-more-each-at counts (k ∷ ks) j (h, hs) =
     let same : length (oneMore counts k) ≡ length counts = length-set counts k (getD counts k 0 + 1) in
     omega (arith, one-more-each-at (oneMore counts k) ks j (rw same hs), one-more-at counts k j h)
-
-pub uses-more : (row : List Node) (n : Node) (j : ℕ) → uses (row ++ (n ∷ [])) j ≡ uses row j + times j (children n)
-uses-more [] n j = omega arith
-uses-more (m ∷ row) n j = omega (arith, uses-more row n j)
 
 times-few : (j : ℕ) (ks : List ℕ) → times j ks ≤ length ks
 times-few j [] = omega arith
@@ -101,7 +98,7 @@ one-more-counted nodes i counts next n en enext low (long, at) =
       rw enext (length-one-more-each counts (children n) ∙ long),
       λ j h.
           rw (add-one i, enext, ← en)
-          (omega (arith, one-more-each-at counts (children n) j room, at j h, uses-more (rowTo nodes i) n j)),
+          (omega (arith, one-more-each-at counts (children n) j room, at j h, uses-append (rowTo nodes i) (n ∷ []) j)),
     )
 
 -- Node j is misused, or not, by what was counted.

@@ -19,7 +19,7 @@ use Rattle.node.specs.Kind.{kindOf, Pair, paired}
 use Rattle.node.specs.Kind.Pair.{composed, choice}
 use Rattle.node.specs.Kind.Kind.{nothing, action, pairs, loops}
 use Rattle.node.specs.Row.{stands, chartsAfter, charts, chart, children, times, uses}
-use Rattle.node.proofs.Rows.{chartsAfter-append}
+use Rattle.node.proofs.Rows.{chartsAfter-append, uses-append}
 use Rattle.node.proofs.Numbering.{number-of-its-kind}
 use Rattle.card.specs.Findings.{inOrderAs}
 use Rattle.card.specs.Meaning.{Declared}
@@ -170,10 +170,6 @@ written-is-its-chart c =
     ∙ at-its-root [] 0 c refl
 
 -- ---- each node but the root is a child once
-
-uses-append : (row more : List Node) (j : ℕ) → uses (row ++ more) j ≡ uses row j + uses more j
-uses-append [] more j = omega arith
-uses-append (n ∷ row) more j = omega (arith, uses-append row more j)
 
 -- 1 for the numbers below n, 0 for the others.
 abbrev below : ℕ → ℕ → ℕ
