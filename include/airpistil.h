@@ -6,6 +6,10 @@
  * parameter says so. A pointer is not null and points to as many bytes, for a room to as many 32-bit numbers, as the
  * length after it says, at most PTRDIFF_MAX bytes; with length 0 nothing is read through it.
  *
+ * Stack: a call takes at most 128 KB of it, whatever its input. How deep calls go is proved (129 searches and 287 levels
+ * of a chart); what each takes was measured in this build for x86-64, and makes 96,064 bytes for airpistil_judge, 5,488
+ * for airpistil_cut, and less for the others. See "The stack" in docs/PROMISES.md.
+ *
  * Link with libairpistil.a.
  */
 #ifndef AIRPISTIL_H
