@@ -22,7 +22,7 @@ const CARD: usize = Node::CARD_BYTES + 1;
 const LOG: usize = log::MOST_BYTES + 1;
 
 // What one answer of the C library's read comes to: so many bytes are read, and reading goes on; or it has ended.
-pub enum Turn {
+enum Turn {
     On(usize),
     Ended(Content),
 }
@@ -65,26 +65,18 @@ fn read(file: i32, bytes: &mut [u8]) -> Content
     }
 }
 
-fn read_chart(bytes: &mut [u8]) -> Content
+// Reads the file of that name in the working directory.
+fn read_named(name: &[u8], bytes: &mut [u8]) -> Content
     ensures { λ r. ⌜ ReadInto (now (bytes .exit)) r ⌝ }
 {
-    let file = os::open_read(b"chart");
-    let content = read(file, bytes);
-    libc::close(file);
-    content
-}
-
-fn read_log(bytes: &mut [u8]) -> Content
-    ensures { λ r. ⌜ ReadInto (now (bytes .exit)) r ⌝ }
-{
-    let file = os::open_read(b"log");
+    let file = os::open_read(name);
     let content = read(file, bytes);
     libc::close(file);
     content
 }
 
 // What is told of the contents of `chart` and `log`, which were read into these bytes.
-pub fn judge_contents(
+fn judge_contents(
     chart: Content,
     card: &[u8],
     log: Content,
@@ -126,8 +118,8 @@ pub fn run() -> Told
     let mut card = [0u8; CARD];
     let mut actions = [0u8; LOG];
     let mut room = [0u32; ROOM];
-    let chart = read_chart(&mut card);
-    let log = read_log(&mut actions);
+    let chart = read_named(b"chart", &mut card);
+    let log = read_named(b"log", &mut actions);
     let told = judge_contents(chart, &card, log, &actions, &mut room);
     tell(told);
     told
