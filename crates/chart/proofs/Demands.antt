@@ -1,5 +1,5 @@
--- The customer's demands (00), for charts and logs. Each theorem stands under the sentence that it keeps, and only cites
--- others.
+-- The customer's demands (00), for charts and logs. Each theorem stands under the sentence that it keeps, and only
+-- cites others.
 --
 -- `answer c t allowance room` is the answer to chart c and log t: number, place, steps, places (specs/Lending.antt).
 -- `Published c` is the chart's trace set as document 000 composes it (specs/Published.antt).
@@ -165,8 +165,8 @@ module _ (c : Chart) (t : Log) (allowance room : ℕ) where
   pub never-above-the-lending : (given .steps ≤ allowance) × (given .places ≤ room)
   never-above-the-lending = within-the-lending c t allowance room
 
-  -- "Once a log deviates, every sound longer log beginning with it gets the same verdict, place and figures from the same
-  -- lending", whatever that is.
+  -- "Once a log deviates, every sound longer log beginning with it gets the same verdict, place and figures from the
+  -- same lending", whatever that is.
   pub once-deviating-the-same-for-ever : given .number ≡ 22 → (u : Log) (lent lentRoom : ℕ)
       → answer c (t ++ u) lent lentRoom ≡ answer c t lent lentRoom
   once-deviating-the-same-for-ever e u lent lentRoom =

@@ -1,5 +1,5 @@
--- The customer's demands (00) on a cut, for the bytes that are lent. Each theorem stands under the sentence that it keeps,
--- and only cites others.
+-- The customer's demands (00) on a cut, for the bytes that are lent. Each theorem stands under the sentence that it
+-- keeps, and only cites others.
 --
 -- `cut` returns `cutting` of card, lifeline and the output's length, and leaves `outAfter` of card, lifeline and
 -- output: that is its contract (cut/src/lib.rt), and `Cuts` its two equations. What is said here of the two definitions

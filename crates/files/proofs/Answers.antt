@@ -1,5 +1,5 @@
--- What an answer of read comes to, by the tests that code makes of it: negative, zero, or how many bytes. Code reads the
--- number out of the answer's bits.
+-- What an answer of read comes to, by the tests that code makes of it: negative, zero, or how many bytes. Code reads
+-- the number out of the answer's bits.
 -- Assumes nothing.
 use Prim.Native.Nat.{ℕ, zero, suc, _+_, _-_, _<_, _≤_}
 use mathlib.Core.Bool.{Bool, true, false}

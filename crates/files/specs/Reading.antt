@@ -14,8 +14,8 @@ abbrev pub soFar : Bool → ℕ → Turn
 soFar true read = Ended (Bytes read)
 soFar false read = On read
 
--- By an answer of read, of a file of which `end` bytes were read before, into `long` bytes. -1 says that it failed, 0 that
--- the file has ended, and any other number how many bytes were put behind those.
+-- By an answer of read, of a file of which `end` bytes were read before, into `long` bytes. -1 says that it failed, 0
+-- that the file has ended, and any other number how many bytes were put behind those.
 abbrev pub afterRead : ℕ → ℕ → ℤ → Turn
 afterRead end long (negsuc k) = Ended Nothing
 afterRead end long (pos zero) = Ended (Bytes end)

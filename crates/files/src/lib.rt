@@ -27,8 +27,8 @@ enum Turn {
     Ended(Content),
 }
 
-// What an answer of read comes to, of a file of which `end` bytes were read before, into `long` bytes. A read that fails
-// leaves nothing to rely on: what was read until then is no whole log.
+// What an answer of read comes to, of a file of which `end` bytes were read before, into `long` bytes. A read that
+// fails leaves nothing to rely on: what was read until then is no whole log.
 fn after(end: usize, long: usize, got: isize) -> Turn
     requires { ⌜ (end ≤ long) × Moved (long - end) got ⌝ }
     ensures { λ r. ⌜ r ≡ afterRead end long got ⌝ }

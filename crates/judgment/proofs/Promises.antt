@@ -29,7 +29,8 @@ use Rattle.judgment.specs.declared.Judged.{Judged}
 use Rattle.judgment.specs.Judgment.{usable, judgedOf, judgment, roomAfter, Judges}
 use Rattle.judgment.specs.Table.{Refused, SoundBoth}
 use Rattle.judgment.proofs.Telling.{sound-judges}
-use Rattle.judgment.proofs.Numbers.{number-of-any, refused-iff, sound-iff, refused-figures, refused-room, figures-within, whole-log}
+use Rattle.judgment.proofs.Numbers.{number-of-any, refused-iff, sound-iff, refused-figures, refused-room}
+use Rattle.judgment.proofs.Numbers.{figures-within, whole-log}
 use Rattle.judgment.proofs.Wiped.{zeros-inside, kept-beyond, same-length}
 
 module _ (card log : List ℕ) (allowance : ℕ) (room : List ℕ) where
@@ -208,8 +209,8 @@ module _ (card log : List ℕ) (allowance : ℕ) (room : List ℕ) where
   pub never-above-the-lending : (given .steps ≤ allowance) × (given .places ≤ places)
   never-above-the-lending = figures-within card log allowance room
 
-  -- "Once a log deviates, every sound longer log beginning with it gets the same verdict, place and figures from the same
-  -- lending", whatever that is.
+  -- "Once a log deviates, every sound longer log beginning with it gets the same verdict, place and figures from the
+  -- same lending", whatever that is.
   pub once-deviating-the-same-for-ever : given .number ≡ 22 → (more : List ℕ) → SoundBoth card (log ++ more)
       → (lent : ℕ) (lentRoom : List ℕ)
       → judgment card (log ++ more) lent (length lentRoom) ≡ judgment card log lent (length lentRoom)

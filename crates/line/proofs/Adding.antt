@@ -2,7 +2,7 @@
 -- Assumes nothing.
 use Prim.Native.Nat.{ℕ, _+_, _≤_}
 use mathlib.Core.List.{List, [], _++_, append-nil, append-assoc}
-use mathlib.Core.Path.{_≡_, sym, ap, _∙_}
+use mathlib.Core.Path.{_≡_, sym, ap, subst, _∙_}
 use native.Mathlib.Omega.{arith}
 use lib.ListN.{length, take, length-append}
 use Rattle.line.specs.declared.Text.{Text}
@@ -10,6 +10,10 @@ use Rattle.line.specs.Texts.{said, Fits, Adds, Says}
 
 pub adds-nothing : (t : Text) {more : ℕ} → Fits t more → Adds t [] t
 adds-nothing t f = record { whole = f .whole; longer = omega arith; says = sym (append-nil (said t)) }
+
+-- The same bytes in other words.
+pub adds-so : {t u : Text} {l m : List ℕ} → m ≡ l → Adds t l u → Adds t m u
+adds-so {t} {u} e a = subst (λ bytes. Adds t bytes u) (sym e) a
 
 pub adds-both : {t u v : Text} {l m : List ℕ} → Adds t l u → Adds u m v → Adds t (l ++ m) v
 adds-both {t} {u} {v} {l} {m} a b =
@@ -23,7 +27,8 @@ pub fits-less : {t : Text} {more less : ℕ} → Fits t more → less ≤ more �
 fits-less f h = record { whole = f .whole; enough = omega (arith, f .enough) }
 
 -- After the first bytes there is room for the rest.
-pub fits-the-rest : {t u : Text} {l : List ℕ} {more rest : ℕ} → Fits t more → Adds t l u → length l + rest ≤ more → Fits u rest
+pub fits-the-rest :
+    {t u : Text} {l : List ℕ} {more rest : ℕ} → Fits t more → Adds t l u → length l + rest ≤ more → Fits u rest
 fits-the-rest f a h = record { whole = a .whole; enough = omega (arith, f .enough, a .longer) }
 
 -- What is put to the empty text is all that it says.

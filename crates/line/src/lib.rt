@@ -1,5 +1,5 @@
-// The line that the program prints, spelled out: "word, place, steps, places" (01, "Logs worked by hand"). What it is for
-// each case of what is told is said in telling/specs/Spelling.antt.
+// The line that the program prints, spelled out: "word, place, steps, places" (01, "Logs worked by hand"). What it is
+// for each case of what is told is said in telling/specs/Spelling.antt.
 ghost use mathlib.Core.List.{[], _∷_};
 ghost use lib.ListN.{length};
 ghost use Rattle.telling.specs.Spelling.{decimal, wordOf, apart, lineOf, printed};

@@ -1,7 +1,7 @@
--- What is promised of the program, for whoever reads nothing else: each sentence of 01 on it, as a theorem that only cites
--- others. Of the contents that were read of `chart` and `log` the program tells `toldOf` (files/src/lib.rt), and writes
--- `printed` of the line of it (line/src/lib.rt). What is said here of these definitions is therefore said of the code.
--- That the contents are the files' own is not said: no contract can speak of what is in a file.
+-- What is promised of the program, for whoever reads nothing else: each sentence of 01 on it, as a theorem that only
+-- cites others. Of the contents that were read of `chart` and `log` the program tells `toldOf` (files/src/lib.rt), and
+-- writes `printed` of the line of it (line/src/lib.rt). What is said here of these definitions is therefore said of the
+-- code. That the contents are the files' own is not said: no contract can speak of what is in a file.
 -- Assumes nothing.
 use Prim.Native.Nat.{ℕ, _<_}
 use mathlib.Core.List.{List, [], _∷_, _++_}
@@ -54,8 +54,8 @@ module _ (card log : List ℕ) (long : ℕ) where
       told (Bytes m) Nothing e = refl
       told Nothing actions e = refl
 
--- A file that is too long is read far enough to be refused: what it is read into is one byte longer than a card or a log
--- may be (`Reports`, specs/Telling.antt), and is filled.
+-- A file that is too long is read far enough to be refused: what it is read into is one byte longer than a card or a
+-- log may be (`Reports`, specs/Telling.antt), and is filled.
 module _ (card log lent : List ℕ) where
   pub a-longer-card-is-refused :
       length card ≡ 4097 → (n : ℕ) → judgment (take 4097 card) (take n log) allowance (length lent) .number ≡ 1

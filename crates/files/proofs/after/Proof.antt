@@ -1,8 +1,10 @@
--- `after` meets its contract: by the tests of an answer, what it comes to. An answer that is neither negative nor zero is
--- how many bytes were read, and no more than there was room for. Assumes nothing.
+-- `after` meets its contract: by the tests of an answer, what it comes to. An answer that is neither negative nor zero
+-- is how many bytes were read, and no more than there was room for. Assumes nothing.
 use Prim.Native.Nat.{_+_, _-_, _≤_}
+use mathlib.Core.Bool.{Bool, true, false}
 use mathlib.Core.Path.{_≡_, sym, ap, _∙_}
 use native.Mathlib.Omega.{arith}
+use lib.Dec.{eqb}
 use lib.IntN.{natAbs}
 use borrow.Author.Tests.{eq-eqb, ne-eqb}
 use Rattle.files.specs.Reading.{soFar, afterRead}
@@ -45,21 +47,23 @@ cast-read c = (is-not-negative (c .before .before .args .got) (positive c), omeg
 add-read : tie.Need-add-read
 add-read c = omega (arith, within c)
 
-returns-3 : tie.Need-returns-3
-returns-3 c =
-    let a = c .before .before .before .args in
+-- Whether that is all that there was room for.
+so-far :
+    (c : tie.Else2) (all : Bool)
+    → (let a = c .before .before .args in
     let read = a .end + natAbs (readOut (a .got)) in
+    eqb read (a .long) ≡ all → soFar all read ≡ afterRead (a .end) (a .long) (a .got))
+so-far c all e =
+    let a = c .before .before .args in
     sym
-    (is-so-many (a .got) (positive (c .before)) (a .end) (a .long)
-    ∙ ap (λ all. soFar all read) (eq-eqb read (a .long) (c .if3 .taken)))
+    (is-so-many (a .got) (positive c) (a .end) (a .long)
+    ∙ ap (λ b. soFar b (a .end + natAbs (readOut (a .got)))) e)
+
+returns-3 : tie.Need-returns-3
+returns-3 c = so-far (c .before) true (eq-eqb _ _ (c .if3 .taken))
 
 returns-4 : tie.Need-returns-4
-returns-4 c =
-    let a = c .before .before .before .args in
-    let read = a .end + natAbs (readOut (a .got)) in
-    sym
-    (is-so-many (a .got) (positive (c .before)) (a .end) (a .long)
-    ∙ ap (λ all. soFar all read) (ne-eqb read (a .long) (c .if3 .left)))
+returns-4 c = so-far (c .before) false (ne-eqb _ _ (c .if3 .left))
 
 pub after-spec : {M : Type 1} → statement M
 after-spec = tie.close (tie.spec returns returns-2 cast-read add-read returns-3 returns-4)

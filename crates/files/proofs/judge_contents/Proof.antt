@@ -65,7 +65,8 @@ same-length c = search needs
 
 returns-3 : tie.Need-returns-3
 returns-3 c =
-    let start = c .before .before .before .before .before .before .before .before .before .before .before .before .before
+    let start =
+    c .before .before .before .before .before .before .before .before .before .before .before .before .before
     .before .before in
     let chart = c .before .before .before .before .before .before .before .before .before .before .chart .given in
     let log = c .before .before .before .before .before .before .before .log .given in
@@ -79,7 +80,8 @@ returns-3 c =
     = rw (m, n) in
     let left : (roomAfter (take (chart .0 .0 - 0) card) (take (log .0 .0 - 0) actions) room
     ≡ roomAfter (take (chart .0 .0) card) (take (log .0 .0) actions) room) = rw (m, n) in
-    rw (chart .1, log .1) (ap Answer (c .before .before .judge .ensures .0 ∙ same), c .before .before .judge .ensures .1 ∙ left)
+    let done = c .before .before .judge .ensures in
+    rw (chart .1, log .1) (ap Answer (done .0 ∙ same), done .1 ∙ left)
 
 pub judge-contents-spec : {M : Type 1} → statement M
 judge-contents-spec =

@@ -43,11 +43,13 @@ moved c =
 -- The next turn begins behind what was read before, and within the lent bytes.
 further : (c : tie.After-known-told Inv-loop μ-loop)
     → (let at = c .before .before .before .before .before .before .before .before .loop in
-    let s = c .before .before .before .before .before .before .before .before .before .before .before .args .bytes .now in
+    let s =
+    c .before .before .before .before .before .before .before .before .before .before .before .args .bytes .now in
     let read = c .before .turn .given .0 .0 in (at .end < read) × (read ≤ length s))
 further c =
     let at = c .before .before .before .before .before .before .before .before .loop in
-    let s = c .before .before .before .before .before .before .before .before .before .before .before .args .bytes .now in
+    let s =
+    c .before .before .before .before .before .before .before .before .before .before .before .args .bytes .now in
     let call = c .before .before .before .before .before .before in
     goes-on (at .end) (length s) (at .inv .0) (readOut (call .read .result)) (c .before .turn .given .0 .0) (moved call)
     (sym (c .before .before .before .after .ensures) ∙ c .before .turn .given .1)

@@ -1,14 +1,13 @@
--- `with_number` meets its contract: a number below 10 is one digit; of any other the digits of its tenth come first, and
--- then its last digit. The number falls at each call. Assumes nothing.
+-- `with_number` meets its contract: a number below 10 is one digit; of any other the digits of its tenth come first,
+-- and then its last digit. The number falls at each call. Assumes nothing.
 use Prim.Native.Nat.{ℕ, _+_, _/_, _%_, _^_, _≤_, _<_}
 use mathlib.Core.List.{[], _∷_}
-use mathlib.Core.Path.{_≡_, sym, ap, subst, _∙_}
+use mathlib.Core.Path.{_≡_, ap, _∙_}
 use native.Mathlib.Omega.{arith}
 use lib.ListN.{length, length-append}
 use Rattle.telling.specs.Spelling.{digit, decimal}
 use Rattle.telling.proofs.Digits.{one-digit, more-digits}
-use Rattle.line.specs.Texts.{Adds}
-use Rattle.line.proofs.Adding.{adds-both, fits-less, fits-the-rest}
+use Rattle.line.proofs.Adding.{adds-so, adds-both, fits-less, fits-the-rest}
 use borrow.Fn.Kinds.{In}
 use borrow.Fn.PlainCycle.{Measures, is, falls, and}
 use Rattle.line.proofs.with_byte.Reads as with-byte-reads
@@ -48,10 +47,7 @@ module _ (t : ℕ) where
       fits-less (c .before .pre .1) (omega arith)
 
   returns : lts.Need-returns claims given f.Post
-  returns c =
-      subst (λ l. Adds (c .before .before .args .text) l (c .with-byte .result))
-      (sym (one-digit (c .before .before .args .number) (omega arith)))
-      (c .with-byte .ensures)
+  returns c = adds-so (one-digit (c .before .before .args .number) (omega arith)) (c .with-byte .ensures)
 
   with-number-requires : lts.Need-with-number-requires claims given f.Post
   with-number-requires c κs =
@@ -73,9 +69,7 @@ module _ (t : ℕ) where
 
   returns-2 : lts.Need-returns-2 claims given f.Post
   returns-2 c =
-      let start = c .before .before .before in
-      subst (λ l. Adds (start .args .text) l (c .with-byte2 .result))
-      (sym (more-digits (start .args .number) (omega arith) (omega arith)))
+      adds-so (more-digits (c .before .before .before .args .number) (omega arith) (omega arith))
       (adds-both (c .before .with-number .ensures) (c .with-byte2 .ensures))
 
 pub +with-number-spec : {M : Type 1} → statement M

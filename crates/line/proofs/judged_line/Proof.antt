@@ -1,5 +1,5 @@
--- `judged_line` meets its contract: the word, then each number behind a blank, then the line's end. A word has at most 18
--- bytes and a number at most ten, so the whole has at most 52. Assumes nothing.
+-- `judged_line` meets its contract: the word, then each number behind a blank, then the line's end. A word has at most
+-- 18 bytes and a number at most ten, so the whole has at most 52. Assumes nothing.
 use Prim.Native.Nat.{suc, _+_, _≤_}
 use mathlib.Core.List.{List, [], _∷_, _++_}
 use native.Mathlib.Omega.{arith}

@@ -1,5 +1,5 @@
 -- `with_word` meets its contract: at each number its word. Assumes nothing.
-use mathlib.Core.Path.{_≡_, sym, ap, subst}
+use mathlib.Core.Path.{_≡_, ap}
 use mathlib.Core.List.{_++_}
 use native.Mathlib.Omega.{arith}
 use borrow.Author.Needs.{needs}
@@ -11,8 +11,7 @@ use Rattle.telling.proofs.Words.{
   twenty-two-is-deviates,
   any-other-is-refused,
 }
-use Rattle.line.specs.Texts.{Adds}
-use Rattle.line.proofs.Adding.{adds-both, fits-less, fits-the-rest}
+use Rattle.line.proofs.Adding.{adds-so, adds-both, fits-less, fits-the-rest}
 use Rattle.line.proofs.with_word.Statement.{statement}
 use Rattle.line.proofs.with_word.Tie as tie
 
@@ -64,30 +63,22 @@ with-number-requires c κs =
 
 returns : tie.Need-returns
 returns c =
-    let start = c .before .before .before in
-    subst (λ l. Adds (start .args .text) l (c .with-bytes .result))
-    (sym (twenty-is-accepted (start .args .number) (c .before .before .match .keys1)))
+    adds-so (twenty-is-accepted (c .before .before .before .args .number) (c .before .before .match .keys1))
     (c .with-bytes .ensures)
 
 returns-2 : tie.Need-returns-2
 returns-2 c =
-    let start = c .before .before .before in
-    subst (λ l. Adds (start .args .text) l (c .with-bytes2 .result))
-    (sym (twenty-one-is-short (start .args .number) (c .before .before .match .keys2)))
+    adds-so (twenty-one-is-short (c .before .before .before .args .number) (c .before .before .match .keys2))
     (c .with-bytes2 .ensures)
 
 returns-3 : tie.Need-returns-3
 returns-3 c =
-    let start = c .before .before .before in
-    subst (λ l. Adds (start .args .text) l (c .with-bytes3 .result))
-    (sym (twenty-two-is-deviates (start .args .number) (c .before .before .match .keys3)))
+    adds-so (twenty-two-is-deviates (c .before .before .before .args .number) (c .before .before .match .keys3))
     (c .with-bytes3 .ensures)
 
 returns-4 : tie.Need-returns-4
 returns-4 c =
-    let start = c .before .before .before .before in
-    subst (λ l. Adds (start .args .text) l (c .with-number .result))
-    (sym (other-than-a-verdict (c .before .before .before)))
+    adds-so (other-than-a-verdict (c .before .before .before))
     (adds-both (c .before .with-bytes4 .ensures) (c .with-number .ensures))
 
 pub with-word-spec : {M : Type 1} → statement M
