@@ -1,13 +1,12 @@
 // The program's work: the files `chart` and `log` of its working directory are read and judged, and one line is written
 // (01, "Logs worked by hand"). What is told of their contents, and the line, is said in the crate `telling`.
-ghost use Prim.Native.Nat.{_-_, _≤_};
 ghost use mathlib.Core.Path.{_≡_};
 ghost use lib.ListN.{length};
-ghost use Rattle.libc.specs.Io.{Moved};
 ghost use Rattle.telling.specs.Telling.{ReadInto, toldOf, roomTold, Reports};
 ghost use Rattle.telling.specs.Spelling.{lineOf, printed};
-ghost use Rattle.files.specs.Reading.{afterRead, OnlyIfOpen};
+ghost use Rattle.reading.specs.Reading.{OnlyIfOpen};
 use node::Node;
+use reading::Turn;
 use telling::Content;
 use telling::Told;
 
@@ -21,31 +20,6 @@ const CARD: usize = Node::CARD_BYTES + 1;
 
 const LOG: usize = log::MOST_BYTES + 1;
 
-// What one answer of the C library's read comes to: so many bytes are read, and reading goes on; or it has ended.
-enum Turn {
-    On(usize),
-    Ended(Content),
-}
-
-// What an answer of read comes to, of a file of which `end` bytes were read before, into `long` bytes. A read that
-// fails leaves nothing to rely on: what was read until then is no whole log.
-fn after(end: usize, long: usize, got: isize) -> Turn
-    requires { ⌜ (end ≤ long) × Moved (long - end) got ⌝ }
-    ensures { λ r. ⌜ r ≡ afterRead end long got ⌝ }
-{
-    if got < 0 {
-        return Turn::Ended(Content::Nothing);
-    }
-    if got == 0 {
-        return Turn::Ended(Content::Bytes(end));
-    }
-    let read = end + got as usize;
-    if read == long {
-        return Turn::Ended(Content::Bytes(read));
-    }
-    Turn::On(read)
-}
-
 // Reads a file to its end, or as far as the lent bytes go. A file that is missing has no descriptor.
 fn read(file: i32, bytes: &mut [u8]) -> Content
     ensures { λ r. ⌜ OnlyIfOpen r file × ReadInto (now (bytes .exit)) r ⌝ }
@@ -57,7 +31,7 @@ fn read(file: i32, bytes: &mut [u8]) -> Content
     let mut end = 0;
     loop {
         let got = libc::read(file, &mut bytes[end..long]);
-        let turn = after(end, long, got);
+        let turn = reading::after(end, long, got);
         match turn {
             Turn::On(read) => end = read,
             Turn::Ended(content) => return content,

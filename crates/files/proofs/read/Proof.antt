@@ -8,7 +8,7 @@ use mir.Syntax.{w64}
 use mir.ValLaws.{toZ-ofZ}
 use borrow.Rule.Slice.PartMut.{putMid, same-len-mid}
 use Rattle.libc.specs.Io.{Moved}
-use Rattle.files.proofs.Answers.{readOut, goes-on, ends, not-negative-is-open}
+use Rattle.reading.proofs.Answers.{readOut, goes-on, ends, not-negative-is-open}
 use Rattle.files.proofs.read.Statement.{statement}
 use Rattle.files.proofs.read.Tie as tie
 

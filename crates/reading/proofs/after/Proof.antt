@@ -7,8 +7,8 @@ use native.Mathlib.Omega.{arith}
 use lib.Dec.{eqb}
 use lib.IntN.{natAbs}
 use borrow.Author.Tests.{eq-eqb, ne-eqb}
-use Rattle.files.specs.Reading.{soFar, afterRead}
-use Rattle.files.proofs.Answers.{
+use Rattle.reading.specs.Reading.{soFar, afterRead}
+use Rattle.reading.proofs.Answers.{
   readOut,
   a-negative-is-a-failure,
   zero-is-the-end,
@@ -17,8 +17,8 @@ use Rattle.files.proofs.Answers.{
   is-at-most,
   is-so-many,
 }
-use Rattle.files.proofs.after.Statement.{statement}
-use Rattle.files.proofs.after.Tie as tie
+use Rattle.reading.proofs.after.Statement.{statement}
+use Rattle.reading.proofs.after.Tie as tie
 
 returns : tie.Need-returns
 returns c =

@@ -19,8 +19,8 @@ use Rattle.libc.specs.Io.{Moved}
 use Rattle.telling.specs.declared.Content.{Content}
 use Rattle.telling.specs.declared.Content.the-variants.{Bytes, Nothing}
 use Rattle.telling.specs.Telling.{ReadInto}
-use Rattle.files.specs.declared.Turn.the-variants.{On, Ended}
-use Rattle.files.specs.Reading.{soFar, afterRead, OnlyIfOpen}
+use Rattle.reading.specs.declared.Turn.the-variants.{On, Ended}
+use Rattle.reading.specs.Reading.{soFar, afterRead, OnlyIfOpen}
 
 -- An answer, read out of its bits.
 abbrev pub readOut : ℤ → ℤ

@@ -6,8 +6,8 @@ use lib.Dec.{eqb}
 use lib.IntN.{ℤ, pos, negsuc}
 use Rattle.telling.specs.declared.Content.{Content}
 use Rattle.telling.specs.declared.Content.the-variants.{Bytes, Nothing}
-use Rattle.files.specs.declared.Turn.{Turn}
-use Rattle.files.specs.declared.Turn.the-variants.{On, Ended}
+use Rattle.reading.specs.declared.Turn.{Turn}
+use Rattle.reading.specs.declared.Turn.the-variants.{On, Ended}
 
 -- So many bytes are read: all that there is room for, or not yet.
 abbrev pub soFar : Bool → ℕ → Turn
