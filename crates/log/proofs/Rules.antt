@@ -21,6 +21,16 @@ pub in-rule-is-short : (log : List ℕ) → inRule log ≡ true → length log �
 in-rule-is-short log passed =
     leb-true (length log) 256 (both-true (eqb (length log % 2) 0) (leb (length log) 256) passed .1)
 
+-- A log that is out of rule is refused with 7, whatever its actions are; of any other its actions decide.
+pub out-of-rule-is-seven :
+    (lifelines messages : ℕ) (log : List ℕ) → inRule log ≡ false → refusing lifelines messages log ≡ Refused 7 0
+out-of-rule-is-seven lifelines messages log e = rw e
+
+pub in-rule-is-by-its-actions :
+    (lifelines messages : ℕ) (log : List ℕ) → inRule log ≡ true
+    → refusing lifelines messages log ≡ undeclared lifelines messages log
+in-rule-is-by-its-actions lifelines messages log e = rw e
+
 -- A log in which nothing is found is in rule.
 passes : (b : Bool) → rule 7 b ≡ Fine → b ≡ true
 passes true h = refl

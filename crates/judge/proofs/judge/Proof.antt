@@ -14,20 +14,6 @@ use Rattle.judgment.proofs.Refusing.{card-refused, log-refused, both-sound}
 use Rattle.judge.proofs.judge.Statement.{statement}
 use Rattle.judge.proofs.judge.Tie as tie
 
--- The card was sound where the log is checked,
-card-sound : (c : tie.Else1) → Sound (c .before .before .before .before .before .args .card .now)
-card-sound c =
-    zero-exactly-for-sound-cards (c .before .before .before .before .before .args .card .now) .0
-    (sym (ap (λ a. a .number) (c .before .check .ensures)) ∙ c .if1 .left)
-
--- and what was found of the log was found by the card's counts.
-log-found : (c : tie.After-check2)
-    → c .check2 .result
-    ≡ refusing (lifelinesOf (c .before .before .before .before .before .before .before .before .args .card .now))
-    (messagesOf (c .before .before .before .before .before .before .before .before .args .card .now))
-    (c .before .before .before .before .before .before .before .before .args .log .now)
-log-found c = rw (← c .before .before .lifelines .ensures, ← c .before .messages .ensures) (c .check2 .ensures)
-
 check-requires : tie.Need-check-requires
 check-requires c κs = tt
 
@@ -42,6 +28,20 @@ returns c =
     (c .before .before .check .ensures)
     (c .before .if1 .taken) in
     (c .refused .ensures ∙ answer, room)
+
+-- The card was sound where the log is checked,
+card-sound : (c : tie.Else1) → Sound (c .before .before .before .before .before .args .card .now)
+card-sound c =
+    zero-exactly-for-sound-cards (c .before .before .before .before .before .args .card .now) .0
+    (sym (ap (λ a. a .number) (c .before .check .ensures)) ∙ c .if1 .left)
+
+-- and what was found of the log was found by the card's counts.
+log-found : (c : tie.After-check2)
+    → c .check2 .result
+    ≡ refusing (lifelinesOf (c .before .before .before .before .before .before .before .before .args .card .now))
+    (messagesOf (c .before .before .before .before .before .before .before .before .args .card .now))
+    (c .before .before .before .before .before .before .before .before .args .log .now)
+log-found c = rw (← c .before .before .lifelines .ensures, ← c .before .messages .ensures) (c .check2 .ensures)
 
 lifelines-requires : tie.Need-lifelines-requires
 lifelines-requires c κs = tt

@@ -1,5 +1,6 @@
 -- `check` meets its contract: 7 where the length is out of rule, else what is found of the actions. Assumes nothing.
-use Rattle.log.proofs.Rules.{in-rule-is-short}
+use mathlib.Core.Path.{sym, _∙_}
+use Rattle.log.proofs.Rules.{in-rule-is-short, out-of-rule-is-seven, in-rule-is-by-its-actions}
 use Rattle.chart.proofs.Tests.{test-failed, test-passed}
 use Rattle.log.proofs.check.Statement.{statement}
 use Rattle.log.proofs.check.Tie as tie
@@ -8,7 +9,11 @@ is-in-rule-requires : tie.Need-is-in-rule-requires
 is-in-rule-requires c κs = tt
 
 returns : tie.Need-returns
-returns c = rw (test-failed (c .before .is-in-rule .ensures) (c .if1 .taken))
+returns c =
+    let a = c .before .before .before .args in
+    sym
+    (out-of-rule-is-seven (a .lifelines) (a .messages) (a .log .now)
+    (test-failed (c .before .is-in-rule .ensures) (c .if1 .taken)))
 
 lowest-undeclared-requires : tie.Need-lowest-undeclared-requires
 lowest-undeclared-requires c κs =
@@ -17,7 +22,11 @@ lowest-undeclared-requires c κs =
 
 returns-2 : tie.Need-returns-2
 returns-2 c =
-    rw (test-passed (c .before .before .is-in-rule .ensures) (c .before .if1 .left)) (c .lowest-undeclared .ensures)
+    let a = c .before .before .before .before .args in
+    c .lowest-undeclared .ensures
+    ∙ sym
+    (in-rule-is-by-its-actions (a .lifelines) (a .messages) (a .log .now)
+    (test-passed (c .before .before .is-in-rule .ensures) (c .before .if1 .left)))
 
 pub check-spec : {M : Type 1} → statement M
 check-spec = tie.close (tie.spec is-in-rule-requires returns lowest-undeclared-requires returns-2)
