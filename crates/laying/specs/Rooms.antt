@@ -33,7 +33,8 @@ laying card room = cond (exceeds card room) TooLittle (Whole (record { place = t
 abbrev pub laidIn : List ℕ → List ℕ → List ℕ
 laidIn card room = cond (exceeds card room) room (placed (nodesOf card) (taken card) room)
 
--- What is found by laying: "10 | the chart .. exceeds the usable room | 0" (01, Verdicts and numbers given).
+-- What is found by laying: "10 | the chart .. exceeds the usable room | 0" (01, Verdicts and numbers given). It decides
+-- what is returned; unlike with 1 to 8, the usable room is zeroed all the same.
 abbrev pub findingOf : Laid → Finding
 findingOf (Whole root) = Fine
 findingOf TooLittle = Refused 10 0

@@ -25,7 +25,7 @@ digits (suc k) n =
     let higher = digits k (n / 10) in
     cond (ltb n 10) (digit n ∷ []) (higher ++ (digit (n % 10) ∷ []))
 
--- A number of 32 bits has at most ten digits.
+-- A number as it is printed: a place, steps or places, which have 32 bits and so at most ten digits.
 unfoldable pub decimal : ℕ → List ℕ
 decimal n = digits 10 n
 

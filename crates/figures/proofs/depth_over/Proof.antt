@@ -24,7 +24,7 @@ element-copy-out-larger-2 c =
     let s = c .before .before .before .before .before in
     let n = s .args .n in
     let low : Below 255 (n .a ∷ n .b ∷ []) = rw (children-of-a-pair n (omega arith) (omega arith)) at (s .pre .0) in
-    low .1 .0
+    omega (arith, low .0, low .1 .0)
 
 larger-requires : tie.Need-larger-requires
 larger-requires c κs = tt

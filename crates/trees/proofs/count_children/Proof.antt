@@ -21,8 +21,12 @@ count-child-requires-2 c κs =
     let s = c .before .before .before .before .before in
     let n = s .args .n in
     let low : Below 255 (n .a ∷ n .b ∷ []) = rw (children-of-a-pair n (omega arith) (omega arith)) at (s .pre .0) in
-    let grown = one-more-grows-by-one (s .args .counts .now) (n .a) (n .b) in
-    (low .1 .0, rw (c .before .count-child .ensures) (omega (arith, s .pre .1 (n .b), grown)))
+    let counts = s .args .counts .now in
+    let left = one-more-grows-by-one counts (n .a) (n .a) in
+    let right = one-more-grows-by-one counts (n .a) (n .b) in (
+      omega (arith, low .0, low .1 .0),
+      rw (c .before .count-child .ensures) (omega (arith, s .pre .1 (n .a), s .pre .1 (n .b))),
+    )
 
 count-child-requires-3 : tie.Need-count-child-requires-3
 count-child-requires-3 c κs =
