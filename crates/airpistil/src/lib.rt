@@ -2,20 +2,20 @@
 // include/airpistil.h declares and documents them.
 ghost use mathlib.Core.Path.{_≡_};
 ghost use lib.ListN.{length};
-ghost use Rattle.card.specs.Checking.{checking};
-ghost use Rattle.card.specs.Note.{noteOf};
-ghost use Rattle.judgment.specs.Judgment.{judgment, roomAfter};
-ghost use Rattle.cutting.specs.Cutting.{cutting, outAfter};
-use card::Checked;
-use cutting::CutAnswer;
-use judgment::Judged;
+ghost use Rattle.card_spec.specs.Checking.{checking};
+ghost use Rattle.card_spec.specs.Note.{noteOf};
+ghost use Rattle.judge_spec.specs.Judgment.{judgment, roomAfter};
+ghost use Rattle.cut_spec.specs.Cutting.{cutting, outAfter};
+use card_spec::Checked;
+use cut_spec::CutAnswer;
+use judge_spec::Judged;
 
 // The answer to a card: number, place, nodes, depth, lifelines.
 #[no_mangle]
 pub extern "C" fn airpistil_check(card: &[u8]) -> Checked
     ensures { λ r. ⌜ r ≡ checking (now (card .entry)) ⌝ }
 {
-    reader::check(card)
+    card_check::check(card)
 }
 
 // How many of the card's leading bytes are its note. (A part of the caller's bytes can't be handed back to C; its
@@ -24,7 +24,7 @@ pub extern "C" fn airpistil_check(card: &[u8]) -> Checked
 pub extern "C" fn airpistil_note(card: &[u8]) -> usize
     ensures { λ r. ⌜ r ≡ length (noteOf (now (card .entry))) ⌝ }
 {
-    let note = reader::note(card);
+    let note = card_check::note(card);
     note.len()
 }
 

@@ -1,4 +1,5 @@
-// The bench tool: judges the log in the file `log` by the chart card in the file `chart`.
+// The bench tool: judges the log in the file `log` by the chart card in the file `chart`. What it tells and prints is
+// defined in bench_spec/specs/.
 fn main() {
-    files::run();
+    bench_files::run();
 }

@@ -7,23 +7,23 @@ use mathlib.Core.List.{List}
 use mathlib.Core.Path.{_≡_, ap, sym, _∙_}
 use native.Mathlib.Omega.{arith}
 use lib.ListN.{length}
-use Rattle.chart.specs.Chart.{size}
-use Rattle.chart.specs.Executing.{evades, prune, chartOf}
-use Rattle.chart.proofs.Shrinking.{pruned-costs-at-most-the-chart}
-use Rattle.card.specs.Parts.{lifelinesOf, messagesOf}
-use Rattle.card.specs.Nodes.{cardChart}
-use Rattle.card.specs.Checking.{rule}
-use Rattle.card.specs.Table.{Sound}
-use Rattle.card.proofs.Telling.{sound→faultless}
-use Rattle.room.specs.declared.Root.{Root}
-use Rattle.room.specs.declared.Pruned.{Pruned}
-use Rattle.room.specs.declared.Pruned.the-variants.{Part, Nothing}
-use Rattle.room.specs.Room.{chartIn, Table, Rooted}
-use Rattle.room.specs.Building.{Prunes}
-use Rattle.room.proofs.Apart.{table-rooted}
-use Rattle.laying.specs.declared.Laid.the-variants.{Whole}
-use Rattle.laying.specs.Rooms.{taken, laying, laidIn}
-use Rattle.laying.proofs.Onward.{
+use Rattle.chart_spec.specs.Chart.{size}
+use Rattle.chart_spec.specs.Executing.{evades, prune, chartOf}
+use Rattle.chart_spec.proofs.Shrinking.{pruned-costs-at-most-the-chart}
+use Rattle.card_spec.specs.Parts.{lifelinesOf, messagesOf}
+use Rattle.card_spec.specs.Nodes.{cardChart}
+use Rattle.card_spec.specs.Checking.{rule}
+use Rattle.card_spec.specs.Table.{Sound}
+use Rattle.card_spec.proofs.Telling.{sound→faultless}
+use Rattle.room_spec.specs.declared.Root.{Root}
+use Rattle.room_spec.specs.declared.Pruned.{Pruned}
+use Rattle.room_spec.specs.declared.Pruned.the-variants.{Part, Nothing}
+use Rattle.room_spec.specs.Room.{chartIn, Table, Rooted}
+use Rattle.room_spec.specs.Building.{Prunes}
+use Rattle.room_spec.proofs.Apart.{table-rooted}
+use Rattle.room_lay.specs.declared.Laid.the-variants.{Whole}
+use Rattle.room_lay.specs.Rooms.{taken, laying, laidIn}
+use Rattle.room_lay.proofs.Onward.{
   whole-keeps-the-length,
   whole-counts-the-chart,
   whole-is-a-table,
@@ -31,10 +31,10 @@ use Rattle.laying.proofs.Onward.{
   whole-is-rooted,
   whole-stands,
 }
-use Rattle.writing.specs.Cards.{cardBytes, Holds}
-use Rattle.cutting.specs.Cutting.{leftOver}
+use Rattle.write_spec.specs.Cards.{cardBytes, Holds}
+use Rattle.cut_spec.specs.Cutting.{leftOver}
 use Rattle.cut.specs.Found.{findingOf}
-use Rattle.cutting.proofs.Holding.{few-nodes, left-over-held}
+use Rattle.cut_spec.proofs.Holding.{few-nodes, left-over-held}
 
 -- What is left of a card's chart stands at a place.
 pub record Left (card : List ℕ) (lifeline : ℕ) (room : List ℕ) (place : ℕ) : Type 0 where

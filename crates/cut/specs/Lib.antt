@@ -1,2 +1,2 @@
--- What pruning means for a cut.
+-- A working definition, which nobody has to believe, of pruning for a cut.
 pub mod Found

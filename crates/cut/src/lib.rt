@@ -1,14 +1,14 @@
 // Cutting a device out of a chart card (01, "Verdicts and numbers given"): any card, lifeline and output get their one
-// answer.
+// answer. Answer and output are defined in cut_spec/specs/Cutting.antt.
 ghost use mathlib.Core.Path.{_≡_};
 ghost use Prim.Native.Nat.{_<_};
 ghost use lib.ListN.{length};
-ghost use Rattle.card.specs.Parts.{lifelinesOf};
-ghost use Rattle.card.specs.Table.{Sound};
-ghost use Rattle.cutting.specs.Cutting.{refusedAt, cutting, outAfter};
-use cutting::CutAnswer;
-use node::Node;
-use room::Pruned;
+ghost use Rattle.card_spec.specs.Parts.{lifelinesOf};
+ghost use Rattle.card_spec.specs.Table.{Sound};
+ghost use Rattle.cut_spec.specs.Cutting.{refusedAt, cutting, outAfter};
+use cut_spec::CutAnswer;
+use node_spec::Node;
+use room_spec::Pruned;
 
 // The room that a cut takes at most: the places of the card's chart, and as many for what pruning makes anew.
 const ROOM: usize = 2 * Node::NODES;
@@ -30,20 +30,20 @@ fn cut_in(card: &[u8], lifeline: u32, room: &mut [u32], out: &mut [u8]) -> CutAn
         ⌜ r ≡ cutting (now (card .entry)) lifeline (length (now (out .entry)))
         × now (out .exit) ≡ outAfter (now (card .entry)) lifeline (now (out .entry)) ⌝ }
 {
-    let root = laying::lay_whole(card, room);
-    let pruned = pruning::prune(room, root.place, lifeline, root.used);
+    let root = room_lay::lay_whole(card, room);
+    let pruned = room_prune::prune(room, root.place, lifeline, root.used);
     let Pruned::Part(part) = pruned else {
-        return refused(12, 0);
+        return refused(number::NO_LOG_LEFT, 0);
     };
-    let length = writer::card_bytes(room, part.place);
+    let length = write_card::card_bytes(room, part.place);
     if out.len() < length {
-        return refused(13, 0);
+        return refused(number::OUTPUT_TOO_SHORT, 0);
     }
-    let lifelines = parts::lifelines(card);
-    let messages = parts::messages(card);
-    writer::write_card(room, part.place, lifelines, messages, out);
+    let lifelines = card_parts::lifelines(card);
+    let messages = card_parts::messages(card);
+    write_card::write_card(room, part.place, lifelines, messages, out);
     CutAnswer {
-        number: 0,
+        number: number::OK,
         place: 0,
         length: length as u32,
     }
@@ -56,13 +56,13 @@ pub fn cut(card: &[u8], lifeline: u32, out: &mut [u8]) -> CutAnswer
         ⌜ r ≡ cutting (now (card .entry)) lifeline (length (now (out .entry)))
         × now (out .exit) ≡ outAfter (now (card .entry)) lifeline (now (out .entry)) ⌝ }
 {
-    let checked = reader::check(card);
+    let checked = card_check::check(card);
     let number = checked.number;
-    if number != 0 {
+    if number != number::OK {
         return refused(number, checked.place);
     }
-    if parts::lifelines(card) <= lifeline {
-        return refused(11, 0);
+    if card_parts::lifelines(card) <= lifeline {
+        return refused(number::UNDECLARED_LIFELINE, 0);
     }
     let mut room = [0u32; ROOM];
     cut_in(card, lifeline, &mut room, out)

@@ -6,19 +6,19 @@ use mathlib.Core.Path.{_≡_, sym, ap, _∙_}
 use native.Mathlib.Omega.{arith}
 use lib.ListN.{length}
 use borrow.Author.Tests.{lt-ltb, le-ltb}
-use Rattle.chart.specs.Action.{Log}
-use Rattle.chart.specs.Chart.{Chart, size}
-use Rattle.chart.specs.Lending.{Answer, halted, told, walk, answer}
-use Rattle.card.specs.Nodes.{cardChart}
-use Rattle.card.specs.Table.{Sound}
-use Rattle.log.specs.Bytes.{logOf, actionsOf}
-use Rattle.log.proofs.Actions.{as-many-actions}
-use Rattle.room.specs.declared.Root.{Root}
-use Rattle.room.specs.Room.{chartIn, Table, Rooted}
-use Rattle.laying.specs.declared.Laid.{Laid}
-use Rattle.laying.specs.declared.Laid.the-variants.{Whole, TooLittle}
-use Rattle.laying.specs.Rooms.{laying, laidIn, findingOf}
-use Rattle.laying.proofs.Onward.{
+use Rattle.chart_spec.specs.Action.{Log}
+use Rattle.chart_spec.specs.Chart.{Chart, size}
+use Rattle.chart_spec.specs.Lending.{Answer, halted, told, walk, answer}
+use Rattle.card_spec.specs.Nodes.{cardChart}
+use Rattle.card_spec.specs.Table.{Sound}
+use Rattle.log_spec.specs.Bytes.{logOf, actionsOf}
+use Rattle.log_spec.proofs.Actions.{as-many-actions}
+use Rattle.room_spec.specs.declared.Root.{Root}
+use Rattle.room_spec.specs.Room.{chartIn, Table, Rooted}
+use Rattle.room_lay.specs.declared.Laid.{Laid}
+use Rattle.room_lay.specs.declared.Laid.the-variants.{Whole, TooLittle}
+use Rattle.room_lay.specs.Rooms.{laying, laidIn, findingOf}
+use Rattle.room_lay.proofs.Onward.{
   too-little-exceeds,
   whole-fits,
   whole-keeps-the-length,
@@ -28,9 +28,9 @@ use Rattle.laying.proofs.Onward.{
   whole-is-rooted,
   whole-stands,
 }
-use Rattle.judgment.specs.Judgment.{judgedOf, returned}
-use Rattle.searching.specs.declared.Ended.{Ended}
-use Rattle.searching.specs.Ending.{endingOf, Searches}
+use Rattle.judge_spec.specs.Judgment.{judgedOf, returned}
+use Rattle.search_spec.specs.declared.Ended.{Ended}
+use Rattle.search_spec.specs.Ending.{endingOf, Searches}
 
 -- A chart that exceeds the room, and one that does not.
 exceeding-answer : (c : Chart) (t : Log) (allowance room : ℕ) → room < size c → answer c t allowance room ≡ halted 10 0

@@ -1,17 +1,17 @@
 // The judgment of a log by a card (01, "Verdicts and numbers given"): any card, log, allowance and room get their one
-// answer.
+// answer. Answer and room are defined in judge_spec/specs/Judgment.antt.
 ghost use mathlib.Core.Path.{_≡_};
 ghost use Prim.Native.Nat.{_≤_};
 ghost use lib.ListN.{length, replicate};
-ghost use Rattle.chart.specs.Lending.{answer};
-ghost use Rattle.card.specs.Nodes.{cardChart};
-ghost use Rattle.card.specs.Table.{Sound};
-ghost use Rattle.log.specs.Bytes.{logOf};
-ghost use Rattle.judgment.specs.Judgment.{usable, judgedOf, judgment, roomAfter};
-use card::Finding;
-use judgment::Judged;
-use laying::Laid;
-use node::Node;
+ghost use Rattle.chart_spec.specs.Lending.{answer};
+ghost use Rattle.card_spec.specs.Nodes.{cardChart};
+ghost use Rattle.card_spec.specs.Table.{Sound};
+ghost use Rattle.log_spec.specs.Bytes.{logOf};
+ghost use Rattle.judge_spec.specs.Judgment.{usable, judgedOf, judgment, roomAfter};
+use card_spec::Finding;
+use judge_spec::Judged;
+use node_spec::Node;
+use room_lay::Laid;
 
 // The answer to a sound card and log, in a room that is usable throughout.
 fn answer_in(card: &[u8], log: &[u8], allowance: u32, room: &mut [u32]) -> Judged
@@ -20,12 +20,12 @@ fn answer_in(card: &[u8], log: &[u8], allowance: u32, room: &mut [u32]) -> Judge
         ⌜ r ≡ judgedOf (answer (cardChart (now (card .entry))) (logOf (now (log .entry))) allowance
         (length (now (room .entry)))) ⌝ }
 {
-    let laid = laying::lay(card, room);
+    let laid = room_lay::lay(card, room);
     let Laid::Whole(root) = laid else {
-        return verdict::refused(10, 0);
+        return judge_answer::refused(number::ROOM_EXCEEDED, 0);
     };
     let ended = search::search(log, room, root, allowance, root.used);
-    verdict::tell(ended, allowance, (log.len() / log::ACTION_BYTES) as u32)
+    judge_answer::tell(ended, allowance, (log.len() / log::ACTION_BYTES) as u32)
 }
 
 // The answer to a sound card and log, and the room cleared.
@@ -37,7 +37,7 @@ fn judge_sound(card: &[u8], log: &[u8], allowance: u32, room: &mut [u32]) -> Jud
         × now (room .exit) ≡ replicate (length (now (room .entry))) 0 ⌝ }
 {
     let judged = answer_in(card, log, allowance, room);
-    places::clear(room);
+    room_places::clear(room);
     judged
 }
 
@@ -59,14 +59,14 @@ pub fn judge(card: &[u8], log: &[u8], allowance: u32, room: &mut [u32]) -> Judge
         ⌜ r ≡ judgment (now (card .entry)) (now (log .entry)) allowance (length (now (room .entry)))
         × now (room .exit) ≡ roomAfter (now (card .entry)) (now (log .entry)) (now (room .entry)) ⌝ }
 {
-    let checked = reader::check(card);
+    let checked = card_check::check(card);
     let number = checked.number;
-    if number != 0 {
-        return verdict::refused(number, checked.place);
+    if number != number::OK {
+        return judge_answer::refused(number, checked.place);
     }
-    let finding = log::check(log, parts::lifelines(card), parts::messages(card));
+    let finding = log::check(log, card_parts::lifelines(card), card_parts::messages(card));
     if let Finding::Refused { number, place } = finding {
-        return verdict::refused(number, place);
+        return judge_answer::refused(number, place);
     }
     let end = usable(room.len());
     judge_sound(card, log, allowance, &mut room[0..end])

@@ -1,12 +1,13 @@
-// Logs as bytes (01, "The log"): the rules that refuse one, and one action out of it.
+// Logs as bytes (01, "The log"): the rules that refuse one, and one action out of it. They are defined in
+// log_spec/specs/Refusing.antt and Bytes.antt.
 ghost use mathlib.Core.Path.{_≡_};
 ghost use Prim.Native.Nat.{_<_, _≤_};
 ghost use lib.ListN.{length};
-ghost use Rattle.room.specs.Building.{actionOf};
-ghost use Rattle.log.specs.Bytes.{acts, actionsOf, actionAt};
-ghost use Rattle.log.specs.Refusing.{inRule, declared, undeclared, refusing};
-use card::Finding;
-use room::Action;
+ghost use Rattle.room_spec.specs.Building.{actionOf};
+ghost use Rattle.log_spec.specs.Bytes.{acts, actionsOf, actionAt};
+ghost use Rattle.log_spec.specs.Refusing.{inRule, declared, undeclared, refusing};
+use card_spec::Finding;
+use room_spec::Action;
 
 // The bytes of an action, and the most bytes of a log: 128 actions.
 pub const ACTION_BYTES: usize = 2;
@@ -18,9 +19,9 @@ pub fn action_of(first: u8, second: u8) -> Action
     ensures { λ r. ⌜ actionOf r ≡ acts first second ⌝ }
 {
     Action {
-        lifeline: parts::wide(first / 2),
+        lifeline: card_parts::wide(first / 2),
         receives: first % 2 == 1,
-        message: parts::wide(second),
+        message: card_parts::wide(second),
     }
 }
 
@@ -58,7 +59,7 @@ fn lowest_undeclared(log: &[u8], lifelines: u32, messages: u32) -> Finding
         let action = action_at(log, i);
         if !is_declared(action, lifelines, messages) {
             return Finding::Refused {
-                number: 8,
+                number: number::UNDECLARED_ACTION,
                 place: i as u32,
             };
         }
@@ -73,7 +74,7 @@ pub fn check(log: &[u8], lifelines: u32, messages: u32) -> Finding
 {
     if !is_in_rule(log) {
         return Finding::Refused {
-            number: 7,
+            number: number::LOG_LENGTH,
             place: 0,
         };
     }

@@ -1,24 +1,19 @@
-// The search of a log in a chart (01, "How a log is executed"): depth first, occurrences of the next action from left to
-// right, under an allowance of steps and in a room of places.
+// The search of a log in a chart (01, "How a log is executed"): depth first, occurrences of the next action from left
+// to right, under an allowance of steps and in a room of places. It is defined in chart_spec/specs/Lending.antt; that
+// the code goes this way is said in search_spec/specs/Ending.antt.
 ghost use mathlib.Core.Bool.{cond};
 ghost use mathlib.Core.Path.{_≡_};
-ghost use Prim.Native.Nat.{max, _<_, _≤_};
+ghost use Prim.Native.Nat.{_<_, _≤_};
 ghost use lib.ListN.{length};
-ghost use Rattle.chart.specs.Executing.{terminates};
-ghost use Rattle.room.specs.Room.{chartIn, Table, Rooted};
-ghost use Rattle.room.specs.Building.{Held};
-ghost use Rattle.log.specs.Bytes.{logOf};
-ghost use Rattle.searching.specs.Ending.{Searches, Attempts};
-ghost use Rattle.searching.specs.declared.Ended.the-variants.{Found, Failed};
-use room::Executed;
-use room::Root;
-use searching::Ended;
-
-fn larger(x: u32, y: u32) -> u32
-    ensures { λ r. ⌜ r ≡ max x y ⌝ }
-{
-    if x < y { y } else { x }
-}
+ghost use Rattle.chart_spec.specs.Executing.{terminates};
+ghost use Rattle.room_spec.specs.Room.{chartIn, Table, Rooted};
+ghost use Rattle.room_spec.specs.Building.{Held};
+ghost use Rattle.log_spec.specs.Bytes.{logOf};
+ghost use Rattle.search_spec.specs.Ending.{Searches, Attempts};
+ghost use Rattle.search_spec.specs.declared.Ended.the-variants.{Found, Failed};
+use room_spec::Executed;
+use room_spec::Root;
+use search_spec::Ended;
 
 // At the log's end a terminating chart accepts.
 fn at_end(room: &[u32], place: u32, left: u32, places: u32) -> Ended
@@ -26,7 +21,7 @@ fn at_end(room: &[u32], place: u32, left: u32, places: u32) -> Ended
     ensures { λ r.
         ⌜ r ≡ cond (terminates (chartIn (now (room .entry)) place)) (Found left places) (Failed 0 left places) ⌝ }
 {
-    if asking::terminates(room, place) {
+    if room_ask::terminates(room, place) {
         return Ended::Found { left, places };
     }
     Ended::Failed {
@@ -46,19 +41,19 @@ fn attempt(rest: &[u8], room: &mut [u32], x: Root, allowance: u32, places: u32) 
     let exceeds = room.len() < x.used as usize;
     if allowance == 0 {
         return Ended::Stopped {
-            number: 9,
+            number: number::ALLOWANCE_SPENT,
             left: allowance,
             places,
         };
     }
     if exceeds {
         return Ended::Stopped {
-            number: 10,
+            number: number::ROOM_EXCEEDED,
             left: allowance,
             places,
         };
     }
-    search(rest, room, x, allowance - 1, larger(places, x.used))
+    search(rest, room, x, allowance - 1, number::larger(places, x.used))
 }
 
 // The search of a log in the chart at a root. Each occurrence of its first action is a choice; the places of one that
@@ -79,7 +74,7 @@ pub fn search(log: &[u8], room: &mut [u32], root: Root, allowance: u32, places: 
     let mut most = places;
     let mut k = 0;
     loop {
-        let answer = follow::execute(room, root.place, action, k, root.used);
+        let answer = room_execute::execute(room, root.place, action, k, root.used);
         let Executed::FollowUp(x) = answer else {
             return Ended::Failed {
                 deepest,
@@ -96,7 +91,7 @@ pub fn search(log: &[u8], room: &mut [u32], root: Root, allowance: u32, places: 
         else {
             return ended;
         };
-        deepest = larger(deepest, 1 + beyond);
+        deepest = number::larger(deepest, 1 + beyond);
         left = unspent;
         most = highest;
         k += 1;

@@ -3,9 +3,9 @@
 use mathlib.Core.Path.{refl, sym, ap, _∙_}
 use native.Mathlib.Omega.{arith}
 use borrow.Author.Needs.{needs}
-use Rattle.card.specs.Table.{Sound}
-use Rattle.card.proofs.Promises.{zero-exactly-for-sound-cards}
-use Rattle.cutting.proofs.Refusing.{card-refused, not-declared}
+use Rattle.card_spec.specs.Table.{Sound}
+use Rattle.card_spec.proofs.Promises.{zero-exactly-for-sound-cards}
+use Rattle.cut_spec.proofs.Refusing.{card-refused, not-declared}
 use Rattle.cut.proofs.cut.Statement.{statement}
 use Rattle.cut.proofs.cut.Tie as tie
 

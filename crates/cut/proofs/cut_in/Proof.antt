@@ -5,8 +5,8 @@ use mathlib.Core.Path.{_≡_, ap, sym, _∙_}
 use native.Mathlib.Omega.{arith}
 use borrow.Author.Needs.{needs}
 use lib.ListN.{length}
-use Rattle.writing.specs.Cards.{cardBytes}
-use Rattle.room.specs.declared.Pruned.the-variants.{Nothing}
+use Rattle.write_spec.specs.Cards.{cardBytes}
+use Rattle.room_spec.specs.declared.Pruned.the-variants.{Nothing}
 use Rattle.cut.proofs.Leaving.{
   few-places,
   asks-pruning,
@@ -16,7 +16,7 @@ use Rattle.cut.proofs.Leaving.{
   asks-counting,
   asks-writing,
 }
-use Rattle.cutting.proofs.Refusing.{never-avoided, too-short, card-made}
+use Rattle.cut_spec.proofs.Refusing.{never-avoided, too-short, card-made}
 use Rattle.cut.proofs.cut_in.Statement.{statement}
 use Rattle.cut.proofs.cut_in.Tie as tie
 

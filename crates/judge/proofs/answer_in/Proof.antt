@@ -2,8 +2,8 @@
 -- Assumes nothing.
 use mathlib.Core.Path.{sym, ap, _∙_}
 use native.Mathlib.Omega.{arith}
-use Rattle.judgment.specs.Judgment.{judgedOf}
-use Rattle.laying.specs.declared.Laid.the-variants.{TooLittle}
+use Rattle.judge_spec.specs.Judgment.{judgedOf}
+use Rattle.room_lay.specs.declared.Laid.the-variants.{TooLittle}
 use Rattle.judge.proofs.Answering.{returned-by-laying, laid-stands, search-answers}
 use Rattle.judge.proofs.answer_in.Statement.{statement}
 use Rattle.judge.proofs.answer_in.Tie as tie

@@ -5,12 +5,12 @@ use mathlib.Core.Path.{_≡_, sym, ap, _∙_}
 use native.Mathlib.Omega.{arith}
 use lib.ListN.{length-take}
 use borrow.Author.Needs.{needs}
-use Rattle.card.specs.Table.{Sound}
-use Rattle.card.specs.Parts.{lifelinesOf, messagesOf}
-use Rattle.card.proofs.Promises.{zero-exactly-for-sound-cards}
-use Rattle.log.specs.Refusing.{refusing}
-use Rattle.log.proofs.Rules.{fine-is-in-rule, in-rule-is-short}
-use Rattle.judgment.proofs.Refusing.{card-refused, log-refused, both-sound}
+use Rattle.card_spec.specs.Table.{Sound}
+use Rattle.card_spec.specs.Parts.{lifelinesOf, messagesOf}
+use Rattle.card_spec.proofs.Promises.{zero-exactly-for-sound-cards}
+use Rattle.log_spec.specs.Refusing.{refusing}
+use Rattle.log_spec.proofs.Rules.{fine-is-in-rule, in-rule-is-short}
+use Rattle.judge_spec.proofs.Refusing.{card-refused, log-refused, both-sound}
 use Rattle.judge.proofs.judge.Statement.{statement}
 use Rattle.judge.proofs.judge.Tie as tie
 

@@ -3,12 +3,12 @@
 use Prim.Native.Nat.{_≤_, _-_}
 use mathlib.Core.Path.{_≡_, refl, sym, ap, _∙_}
 use native.Mathlib.Omega.{arith}
-use Rattle.card.specs.declared.Finding.the-variants.{Fine}
-use Rattle.card.specs.Findings.{lowest}
-use Rattle.chart.proofs.Tests.{test-failed, test-passed}
-use Rattle.log.specs.Bytes.{actionsOf, actionAt}
-use Rattle.log.specs.Refusing.{declared, undeclaredOf}
-use Rattle.log.proofs.Rules.{declared-goes-on, undeclared-is-found}
+use Rattle.card_spec.specs.declared.Finding.the-variants.{Fine}
+use Rattle.card_spec.specs.Findings.{lowest}
+use Rattle.chart_spec.proofs.Tests.{test-failed, test-passed}
+use Rattle.log_spec.specs.Bytes.{actionsOf, actionAt}
+use Rattle.log_spec.specs.Refusing.{declared, undeclaredOf}
+use Rattle.log_spec.proofs.Rules.{declared-goes-on, undeclared-is-found}
 use Rattle.log.proofs.lowest_undeclared.Statement.{statement}
 use Rattle.log.proofs.lowest_undeclared.Tie as tie
 

@@ -9,13 +9,13 @@ use lib.ListN.{length, take, drop, length-take}
 use borrow.Author.Tests.{ltb-true, ltb-false}
 use borrow.Fn.Kinds.{In}
 use borrow.Fn.PlainCycle.{Measures, is, falls, and}
-use Rattle.log.specs.Bytes.{logOf}
-use Rattle.log.proofs.Actions.{first-action, as-many-actions}
-use Rattle.room.specs.declared.Executed.the-variants.{FollowUp}
-use Rattle.room.specs.Building.{actionOf, Follows}
-use Rattle.room.proofs.Apart.{table-rooted}
-use Rattle.searching.proofs.Trying.{spent-stops, exceeding-stops, fitting-goes-on, attempt-within}
-use Rattle.searching.proofs.Searching.{
+use Rattle.log_spec.specs.Bytes.{logOf}
+use Rattle.log_spec.proofs.Actions.{first-action, as-many-actions}
+use Rattle.room_spec.specs.declared.Executed.the-variants.{FollowUp}
+use Rattle.room_spec.specs.Building.{actionOf, Follows}
+use Rattle.room_spec.proofs.Apart.{table-rooted}
+use Rattle.search_spec.proofs.Trying.{spent-stops, exceeding-stops, fitting-goes-on, attempt-within}
+use Rattle.search_spec.proofs.Searching.{
   Settled,
   SoFar,
   choices,
@@ -30,20 +30,20 @@ use Rattle.searching.proofs.Searching.{
   choice-settles,
   choice-fails,
 }
-use Rattle.searching.specs.declared.Ended.{Ended}
-use Rattle.searching.specs.declared.Ended.the-variants.{Found, Failed, Stopped}
-use Rattle.searching.proofs.Ended.{the-type}
-use Rattle.searching.specs.Ending.{Attempts}
+use Rattle.search_spec.specs.declared.Ended.{Ended}
+use Rattle.search_spec.specs.declared.Ended.the-variants.{Found, Failed, Stopped}
+use Rattle.search_spec.proofs.Ended.{the-type}
+use Rattle.search_spec.specs.Ending.{Attempts}
 use Rattle.search.proofs.attempt.Reads as attempt
 use Rattle.search.proofs.attempt.Kinds as attempt-kinds
 use Rattle.search.proofs.+attempt+search.Lts-attempt as attempt-lts
 use Rattle.search.proofs.search.Reads as search′
 use Rattle.search.proofs.search.Kinds as search-kinds
 use Rattle.search.proofs.+attempt+search.Lts-search as search-lts
-use Rattle.follow.proofs.execute.Reads as execute-reads
+use Rattle.room_execute.proofs.execute.Reads as execute-reads
 use Rattle.log.proofs.action_at.Reads as action-at-reads
 use Rattle.search.proofs.at_end.Reads as at-end-reads
-use Rattle.search.proofs.larger.Reads as larger-reads
+use Rattle.number.proofs.larger.Reads as larger-reads
 use Rattle.search.proofs.+attempt+search.{statement}
 use Rattle.search.proofs.+attempt+search.Tie.{close}
 use types.Run.{OneOf, miss}

@@ -1,0 +1,27 @@
+-- Working definitions, which nobody has to believe: what a text says that is being spelled.
+-- Assumes nothing.
+use Prim.Native.Nat.{ℕ, _+_, _≤_}
+use mathlib.Core.List.{List, _++_}
+use mathlib.Core.Path.{_≡_}
+use lib.ListN.{length, take}
+use Rattle.bench_line.specs.declared.Text.{Text}
+
+-- The bytes of a text, up to its end.
+abbrev pub said : Text → List ℕ
+said t = take (t .end) (t .bytes)
+
+-- A text has room for so many bytes more.
+pub record Fits (t : Text) (more : ℕ) : Type 0 where
+  pub whole : length (t .bytes) ≡ 52
+  pub enough : t .end + more ≤ 52
+
+-- A text says what another says, and more behind it.
+pub record Adds (t : Text) (more : List ℕ) (r : Text) : Type 0 where
+  pub whole : length (r .bytes) ≡ 52
+  pub longer : r .end ≡ t .end + length more
+  pub says : said r ≡ said t ++ more
+
+-- A text says just this.
+pub record Says (l : List ℕ) (r : Text) : Type 0 where
+  pub within : r .end ≤ length (r .bytes)
+  pub says : said r ≡ l

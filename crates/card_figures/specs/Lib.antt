@@ -1,0 +1,2 @@
+-- A working definition, which nobody has to believe, of the set of acting lifelines.
+pub mod Bits

@@ -1,0 +1,2 @@
+// What a chart means and how a log is executed: definitions in specs/, laws in proofs/. All code is proved against
+// these definitions.

@@ -1,2 +1,0 @@
--- A working definition of executing.
-pub mod Occurrences

@@ -1,2 +1,0 @@
--- A card's chart in a room.
-pub mod Rooms

@@ -1,2 +1,0 @@
--- What a text says.
-pub mod Texts

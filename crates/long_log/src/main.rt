@@ -1,4 +1,0 @@
-// The bench tool on a log of 129 actions, one more than a log may have.
-fn main() {
-    files::run();
-}

@@ -1,4 +1,0 @@
-// The bench tool where the file `log` is missing.
-fn main() {
-    files::run();
-}

@@ -1,6 +1,0 @@
--- Laws of nodes and places.
-pub mod Packing
-pub mod Ranges
-pub mod Numbering
-pub mod Rows
-pub mod Trees

@@ -1,2 +1,0 @@
--- Working definitions of executing in a pair.
-pub mod Beside

@@ -1,2 +1,0 @@
--- Working definitions of pruning.
-pub mod Sides

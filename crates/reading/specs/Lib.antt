@@ -1,2 +1,0 @@
--- What reading a file comes to, answer by answer.
-pub mod Reading

@@ -1,0 +1,2 @@
+-- A working definition, which nobody has to believe, of executing in a loop.
+pub mod Orders

@@ -1,0 +1,22 @@
+-- `pack` meets its contract: two shifts with a mask each, by the law over the width. Assumes nothing.
+use Prim.Native.Nat.{_^_, _%_, _<_}
+use native.Mathlib.Omega.{arith}
+use lib.Bits.{and-mask}
+use Rattle.room_spec.specs.Place.{joined}
+use Rattle.room_spec.proofs.Packing.{shift-and-mask-join}
+use Rattle.room_places.proofs.pack.Statement.{statement}
+use Rattle.room_places.proofs.pack.Tie as tie
+
+returns : tie.Need-returns
+returns c =
+    let n = c .before .before .before .args .node in
+    let kind : n .kind % 2 ^ 4 < 2 ^ 4 = omega arith in
+    let upper : joined 14 (n .kind % 2 ^ 4) (n .a) < 2 ^ 18 = omega arith in
+    rw (
+      and-mask (n .kind) 4,
+      shift-and-mask-join 4 14 32 (n .kind % 2 ^ 4) (n .a) kind (omega arith),
+      shift-and-mask-join 18 14 32 (joined 14 (n .kind % 2 ^ 4) (n .a)) (n .b) upper (omega arith),
+    )
+
+pub pack-spec : {M : Type 1} → statement M
+pack-spec = tie.close (tie.spec returns)

@@ -1,0 +1,8 @@
+-- Laws of rooms, and of what is built in them.
+pub mod Packing
+pub mod Standing
+pub mod Adding
+pub mod Apart
+pub mod Descending
+pub mod Answering
+pub mod Onward

@@ -1,2 +1,0 @@
--- A working definition of executing in a loop.
-pub mod Orders

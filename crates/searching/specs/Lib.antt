@@ -1,2 +1,0 @@
--- How the code's search ends, in the words of the search under a lending.
-pub mod Ending

@@ -1,0 +1,4 @@
+// The bench tool where the file `chart` is missing.
+fn main() {
+    bench_files::run();
+}

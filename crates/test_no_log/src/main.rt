@@ -1,0 +1,4 @@
+// The bench tool where the file `log` is missing.
+fn main() {
+    bench_files::run();
+}

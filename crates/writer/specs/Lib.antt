@@ -1,2 +1,0 @@
--- Working definitions of writing a card.
-pub mod Outputs
