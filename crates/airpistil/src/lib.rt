@@ -1,5 +1,5 @@
-// The C interface: each function hands its bytes to the call of the same name and hands back what that answers.
-// include/airpistil.h declares and documents them.
+// The C interface: each function hands its bytes to the call of the same name and hands back what that answers, which is
+// defined in card_spec, judge_spec and cut_spec. include/airpistil.h declares and documents them.
 ghost use mathlib.Core.Path.{_≡_};
 ghost use lib.ListN.{length};
 ghost use Rattle.card_spec.specs.Checking.{checking};
@@ -9,6 +9,16 @@ ghost use Rattle.cut_spec.specs.Cutting.{cutting, outAfter};
 use card_spec::Checked;
 use cut_spec::CutAnswer;
 use judge_spec::Judged;
+
+// The version of this library, 1.0.0: 10,000 times the first number, and 100 times the second, and the third.
+const VERSION: u32 = 10000;
+
+#[no_mangle]
+pub extern "C" fn airpistil_version() -> u32
+    ensures { λ r. ⌜ r ≡ 10000 ⌝ }
+{
+    VERSION
+}
 
 // The answer to a card: number, place, nodes, depth, lifelines.
 #[no_mangle]
