@@ -9,7 +9,7 @@ ghost use Rattle.bench_spec.specs.Reading.{OnlyIfOpen};
 use bench_spec::Content;
 use bench_spec::Told;
 use bench_spec::Turn;
-use node_spec::Node;
+use node::Node;
 
 // The allowance and the room that the program lends.
 const ALLOWANCE: u32 = 1000000;

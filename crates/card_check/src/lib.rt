@@ -7,7 +7,7 @@ ghost use Rattle.card_spec.specs.Checking.{checking, refusal};
 ghost use Rattle.card_spec.specs.Note.{noteOf};
 use card_spec::Checked;
 use card_spec::Finding;
-use node_spec::Node;
+use node::Node;
 
 mod rules;
 

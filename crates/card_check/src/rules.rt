@@ -1,7 +1,7 @@
 // Rules of the whole card: numbers 1, 2 and 3 of 01's table.
 ghost use mathlib.Core.Path.{_≡_};
 ghost use Rattle.card_spec.specs.Findings.{within, framed, backInRule, countsInRange};
-use node_spec::Node;
+use node::Node;
 
 fn is_within(low: usize, x: usize, high: usize) -> bool
     ensures { λ r. ⌜ r ≡ within low x high ⌝ }

@@ -5,7 +5,7 @@ ghost use Prim.Native.Nat.{_<_, _≤_};
 ghost use Rattle.card_spec.specs.Nodes.{countOf};
 ghost use Rattle.card_spec.specs.Findings.{inOrder, faultOf, faulty};
 use card_spec::Finding;
-use node_spec::Node;
+use node::Node;
 
 // Whether node i is in order: `c` is its fourth byte.
 fn is_in_order(n: Node, c: u32, i: u32, lifelines: u32, messages: u32) -> bool

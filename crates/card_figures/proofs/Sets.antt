@@ -14,7 +14,7 @@ use lib.Count.{ones, ones-cat}
 use lib.Dec.{T, eqb, eqb-refl}
 use lib.Pow.{pow-lt}
 use borrow.Author.Tests.{eq-eqb, ne-eqb}
-use Rattle.node_spec.specs.declared.Node.{Node}
+use Rattle.node.specs.declared.Node.{Node}
 use Rattle.node_spec.specs.Kind.{kindOf}
 use Rattle.node_spec.proofs.Ranges.{zero-is-nothing, one-and-two-are-actions, three-to-six-are-pairs}
 use Rattle.node_spec.proofs.Ranges.{seven-to-ten-are-loops, above-ten-is-unknown}

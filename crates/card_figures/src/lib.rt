@@ -9,7 +9,7 @@ ghost use Rattle.node_spec.specs.Row.{children, highest, Below};
 ghost use Rattle.card_spec.specs.Figures.{depthOf, actsAs, actingOf};
 ghost use Rattle.card_spec.specs.Faultless.{Faultless};
 ghost use Rattle.card_figures.specs.Bits.{bitsOf};
-use node_spec::Node;
+use node::Node;
 
 fn larger(x: u8, y: u8) -> u8
     ensures { λ r. ⌜ r ≡ max x y ⌝ }

@@ -5,7 +5,7 @@ ghost use mathlib.Core.Path.{_≡_};
 ghost use Prim.Native.Nat.{_<_};
 ghost use Rattle.card_spec.specs.Parts.{trailerByte, backOf, lifelinesOf, messagesOf, trailerAt, firstAt, nodesOf};
 ghost use Rattle.card_spec.specs.Nodes.{countOf, nodeAt, spareAt};
-use node_spec::Node;
+use node::Node;
 
 // A byte as a number.
 pub fn wide(byte: u8) -> u32

@@ -5,7 +5,7 @@ use mathlib.Core.Path.{_≡_}
 use native.Mathlib.Decide.{decLe}
 use native.Mathlib.Omega.{arith}
 use borrow.Author.Tests.{le-leb, lt-leb}
-use Rattle.node_spec.specs.declared.Node.{Node}
+use Rattle.node.specs.declared.Node.{Node}
 use Rattle.node_spec.specs.Row.{children, times}
 use Rattle.node_spec.proofs.Ranges.{children-of-a-leaf, children-of-a-pair, children-of-a-loop, children-of-the-unknown}
 use Rattle.card_spec.specs.Table.{childIn}

@@ -7,7 +7,7 @@ use mathlib.Core.Logic.{_≢_, _⊎_, inl, inr}
 use mathlib.Core.Path.{_≡_, sym}
 use native.Mathlib.Decide.{decLe}
 use native.Mathlib.Omega.{arith}
-use Rattle.node_spec.specs.declared.Node.{Node}
+use Rattle.node.specs.declared.Node.{Node}
 use Rattle.chart_spec.specs.Chart.{Loop}
 use Rattle.node_spec.specs.Kind.{Kind, kindOf, Pair}
 use Rattle.node_spec.specs.Kind.Kind.{nothing, action, pairs, loops, unknown}

@@ -10,7 +10,7 @@ use native.Mathlib.Omega.{arith}
 use lib.Dec.{T, eqb, ltb, leb, eqb→eq}
 use lib.ListN.{length, drop, length-take, length-drop}
 use borrow.Author.Tests.{eqb-true, ltb-true, leb-true}
-use Rattle.node_spec.specs.declared.Node.{Node}
+use Rattle.node.specs.declared.Node.{Node}
 use Rattle.node_spec.specs.Kind.{Kind, kindOf}
 use Rattle.node_spec.specs.Kind.Kind.{nothing, action, pairs, loops, unknown}
 use Rattle.node_spec.specs.Row.{childrenAs, Below}

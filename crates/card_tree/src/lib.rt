@@ -9,7 +9,7 @@ ghost use Rattle.card_spec.specs.Findings.{misused};
 ghost use Rattle.card_spec.specs.Faultless.{Faultless};
 ghost use Rattle.card_tree.specs.Counting.{oneMore, oneMoreEach};
 use card_spec::Finding;
-use node_spec::Node;
+use node::Node;
 
 fn count_child(counts: &mut [u16; Node::NODES], child: u32)
     requires { ⌜ (child < 255) × (getD (now counts) child 0 < 65535) ⌝ }

@@ -7,7 +7,7 @@ ghost use Rattle.card_spec.specs.Parts.{lifelinesOf};
 ghost use Rattle.card_spec.specs.Table.{Sound};
 ghost use Rattle.cut_spec.specs.Cutting.{refusedAt, cutting, outAfter};
 use cut_spec::CutAnswer;
-use node_spec::Node;
+use node::Node;
 use room_spec::Pruned;
 
 // The room that a cut takes at most: the places of the card's chart, and as many for what pruning makes anew.

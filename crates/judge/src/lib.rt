@@ -10,7 +10,7 @@ ghost use Rattle.log_spec.specs.Bytes.{logOf};
 ghost use Rattle.judge_spec.specs.Judgment.{usable, judgedOf, judgment, roomAfter};
 use card_spec::Finding;
 use judge_spec::Judged;
-use node_spec::Node;
+use node::Node;
 use room_lay::Laid;
 
 // The answer to a sound card and log, in a room that is usable throughout.

@@ -12,7 +12,7 @@ use lib.Seq.{getD-take, getD-drop}
 use Rattle.chart_spec.specs.Chart.{Order, Loop}
 use Rattle.chart_spec.specs.Chart.Order.{strict, seq, par}
 use Rattle.chart_spec.specs.Chart.Loop.{each, head}
-use Rattle.node_spec.specs.declared.Node.{Node}
+use Rattle.node.specs.declared.Node.{Node}
 use Rattle.node_spec.specs.Row.{children}
 use Rattle.node_spec.specs.Kind.{Kind, kindOf, allKinds, Pair}
 use Rattle.node_spec.specs.Kind.Pair.{composed, choice}

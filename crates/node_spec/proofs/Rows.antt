@@ -9,7 +9,7 @@ use lib.ListN.{length, getD, take, drop, length-append, List·getD-append}
 use lib.Seq.{split-at, append-snoc, length-take-le, getD-at}
 use Rattle.chart_spec.specs.Chart.{Chart, depth}
 use Rattle.chart_spec.specs.Chart.Chart.{empty}
-use Rattle.node_spec.specs.declared.Node.{Node}
+use Rattle.node.specs.declared.Node.{Node}
 use Rattle.node_spec.specs.Kind.{Kind, kindOf}
 use Rattle.node_spec.specs.Kind.Pair.{composed, choice}
 use Rattle.node_spec.specs.Kind.Kind.{nothing, action, pairs, loops, unknown}

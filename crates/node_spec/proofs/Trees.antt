@@ -17,7 +17,7 @@ use lib.Seq.{getD-at}
 use Rattle.chart_spec.specs.Action.{Every}
 use Rattle.chart_spec.specs.Chart.{Chart, size}
 use Rattle.chart_spec.specs.Chart.Chart.{empty}
-use Rattle.node_spec.specs.declared.Node.{Node}
+use Rattle.node.specs.declared.Node.{Node}
 use Rattle.node_spec.specs.Kind.{Kind, kindOf}
 use Rattle.node_spec.specs.Kind.Pair.{composed, choice}
 use Rattle.node_spec.specs.Kind.Kind.{nothing, action, pairs, loops, unknown}

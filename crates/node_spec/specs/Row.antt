@@ -10,7 +10,7 @@ use lib.ListN.{length, getD}
 use Rattle.chart_spec.specs.Action.{Every}
 use Rattle.chart_spec.specs.Chart.{Chart}
 use Rattle.chart_spec.specs.Chart.Chart.{empty, act, loop}
-use Rattle.node_spec.specs.declared.Node.{Node}
+use Rattle.node.specs.declared.Node.{Node}
 use Rattle.node_spec.specs.Kind.{Kind, kindOf, paired}
 use Rattle.node_spec.specs.Kind.Kind.{nothing, action, pairs, loops, unknown}
 

@@ -3,7 +3,7 @@
 ghost use mathlib.Core.Path.{_≡_};
 ghost use Rattle.room_spec.specs.Room.{chartIn, Rooted};
 ghost use Rattle.chart_spec.specs.Executing as chart;
-use node_spec::Node;
+use node::Node;
 
 // Whether a part terminates.
 pub fn terminates(room: &[u32], place: u32) -> bool

@@ -10,7 +10,7 @@ use lib.Dec.{eqb}
 use borrow.Author.Tests.{eq-eqb, ne-eqb}
 use Rattle.chart_spec.specs.Action.{Action, same}
 use Rattle.chart_spec.specs.Executing.{follows}
-use Rattle.node_spec.specs.declared.Node.{Node}
+use Rattle.node.specs.declared.Node.{Node}
 use Rattle.node_spec.specs.Kind.{kindOf}
 use Rattle.node_spec.specs.Kind.Kind.{action}
 use Rattle.node_spec.proofs.Numbering.{kind-has-its-number}

@@ -12,7 +12,7 @@ use Rattle.chart_spec.specs.Chart.{Loop}
 use Rattle.chart_spec.specs.Chart.Chart.{empty, act, loop}
 use Rattle.chart_spec.specs.Executing.{Made, afterRound, follows}
 use Rattle.chart_spec.specs.Executing.Made.{newEmpty}
-use Rattle.node_spec.specs.declared.Node.{Node}
+use Rattle.node.specs.declared.Node.{Node}
 use Rattle.node_spec.specs.Kind.{Pair, kindOf}
 use Rattle.node_spec.specs.Kind.Kind.{pairs, loops}
 use Rattle.node_spec.proofs.Ranges.{three-to-six-are-pairs}

@@ -5,7 +5,7 @@ use lib.Dec.{eqb}
 use Rattle.chart_spec.specs.Action.{Action}
 use Rattle.chart_spec.specs.Chart.Chart.{act}
 use Rattle.chart_spec.specs.Executing.{Made, follows}
-use Rattle.node_spec.specs.declared.Node.{Node}
+use Rattle.node.specs.declared.Node.{Node}
 
 -- The follow-ups of a node of kind 1 or 2 by an action: "the action becomes empty".
 abbrev pub occurrences : Node → Action → List Made

@@ -9,7 +9,7 @@ ghost use Rattle.chart_spec.specs.Executing.{follows};
 ghost use Rattle.room_spec.specs.Room.{chartIn, Table, Rooted};
 ghost use Rattle.room_spec.specs.Building.{actionOf, Follows};
 ghost use Rattle.room_execute.specs.Occurrences.{occurrences};
-use node_spec::Node;
+use node::Node;
 use room_spec::Action;
 use room_spec::Executed;
 

@@ -13,12 +13,12 @@ use lib.ListN.{length, getD, drop, set, length-append, length-map, length-drop, 
 use lib.Seq.{set-at, drop-cons, append-snoc, getD-at}
 use Rattle.chart_spec.specs.Chart.Chart.{empty}
 use Rattle.chart_spec.proofs.Tests.{both-true}
-use Rattle.node_spec.specs.declared.Node.{Node}
+use Rattle.node.specs.declared.Node.{Node}
 use Rattle.node_spec.specs.Kind.{Kind, kindOf}
 use Rattle.node_spec.specs.Kind.Kind.{nothing, action, pairs, loops, unknown}
-use Rattle.room_spec.specs.Place.{nodeOf, wordOf, Fitting}
+use Rattle.node.specs.Place.{nodeOf, wordOf, Fitting}
 use Rattle.node_spec.specs.Row.{charts, children, Below}
-use Rattle.room_spec.proofs.Packing.{unpacks-to-the-same-node}
+use Rattle.node.proofs.Packing.{unpacks-to-the-same-node}
 use Rattle.node_spec.proofs.Numbering.{Known, known-kinds}
 use Rattle.node_spec.proofs.Rows.{charts-keep}
 use Rattle.card_spec.specs.Parts.{nodesOf, lifelinesOf, messagesOf}

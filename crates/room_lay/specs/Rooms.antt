@@ -6,7 +6,7 @@ use mathlib.Core.Bool.{Bool, cond}
 use mathlib.Core.List.{List, map, _++_}
 use lib.Dec.{ltb}
 use lib.ListN.{length, drop}
-use Rattle.room_spec.specs.Place.{wordOf}
+use Rattle.node.specs.Place.{wordOf}
 use Rattle.card_spec.specs.declared.Finding.{Finding}
 use Rattle.card_spec.specs.declared.Finding.the-variants.{Fine, Refused}
 use Rattle.card_spec.specs.Parts.{nodesOf}

@@ -14,7 +14,7 @@ use Rattle.chart_spec.specs.Chart.Loop.{each, head}
 use Rattle.chart_spec.specs.Chart.Chart.{loop}
 use Rattle.chart_spec.specs.Executing.{Made, prune, between, begun, afterRound}
 use Rattle.chart_spec.specs.Executing.Made.{kept, newPair}
-use Rattle.node_spec.specs.declared.Node.{Node}
+use Rattle.node.specs.declared.Node.{Node}
 use Rattle.node_spec.specs.Kind.{kindOf, numberOf}
 use Rattle.node_spec.specs.Kind.Pair.{composed}
 use Rattle.node_spec.specs.Kind.Kind.{pairs, loops}

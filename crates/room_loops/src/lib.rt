@@ -10,7 +10,7 @@ ghost use Rattle.room_spec.specs.Room.{nodeIn, chartIn, Rooted};
 ghost use Rattle.room_spec.specs.Building.{Held};
 ghost use Rattle.room_spec.specs.Passing.{Carries};
 ghost use Rattle.room_loops.specs.Orders.{orderBetween};
-use node_spec::Node;
+use node::Node;
 use room_spec::Root;
 
 // The order in which the rounds of a loop follow each other, as the kind of a pair.

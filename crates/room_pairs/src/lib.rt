@@ -9,7 +9,7 @@ ghost use Rattle.node_spec.specs.Kind.Kind.{pairs};
 ghost use Rattle.room_spec.specs.Room.{chartIn, Table, Rooted};
 ghost use Rattle.room_spec.specs.Passing.{Carries, Turns, Beside};
 ghost use Rattle.room_pairs.specs.Beside.{besideRight, besideLeft, noneOf};
-use node_spec::Node;
+use node::Node;
 use room_spec::Executed;
 use room_spec::Pruned;
 use room_spec::Root;

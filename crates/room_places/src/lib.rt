@@ -1,40 +1,12 @@
 // Places of a room, read, written and cleared. These functions alone touch a room's numbers. How a node stands in a
-// place is defined in room_spec/specs/Place.antt.
+// place is defined in node/specs/Place.antt.
 ghost use mathlib.Core.Path.{_≡_};
 ghost use Prim.Native.Nat.{_<_};
 ghost use lib.ListN.{length, replicate};
-ghost use Rattle.room_spec.specs.Place.{wordOf, nodeOf};
 ghost use Rattle.room_spec.specs.Room.{nodeIn, Table};
 ghost use Rattle.room_spec.specs.Building.{added, rootAt};
-use node_spec::Node;
+use node::Node;
 use room_spec::Root;
-
-// A place is one number: the kind in 4 bits above a and b in 14 bits each. What is too wide loses its high bits.
-const KIND_MASK: u32 = 0xF;
-
-const KIND_SHIFT: u32 = 28;
-
-const NUMBER_MASK: u32 = 0x3FFF;
-
-const NUMBER_BITS: u32 = 14;
-
-fn pack(node: Node) -> u32
-    ensures { λ r. ⌜ r ≡ wordOf node ⌝ }
-{
-    let kind = node.kind & KIND_MASK;
-    let upper = (kind << NUMBER_BITS) | (node.a & NUMBER_MASK);
-    (upper << NUMBER_BITS) | (node.b & NUMBER_MASK)
-}
-
-fn unpack(word: u32) -> Node
-    ensures { λ r. ⌜ r ≡ nodeOf word ⌝ }
-{
-    Node {
-        kind: word >> KIND_SHIFT,
-        a: (word >> NUMBER_BITS) & NUMBER_MASK,
-        b: word & NUMBER_MASK,
-    }
-}
 
 // The node at a place.
 pub fn read(room: &[u32], place: u32) -> Node
@@ -42,7 +14,7 @@ pub fn read(room: &[u32], place: u32) -> Node
     ensures { λ r. ⌜ r ≡ nodeIn (now (room .entry)) place ⌝ }
 {
     let at = place as usize;
-    unpack(room[at])
+    Node::unpack(room[at])
 }
 
 // A node more, in the first place that is not in use. A room that is full stays as it is, and is counted as exceeded.
@@ -59,7 +31,7 @@ pub fn add(room: &mut [u32], kind: u32, a: u32, b: u32, used: u32) -> Root
             a: a,
             b: b,
         };
-        room[at] = pack(node);
+        room[at] = node.pack();
         return Root {
             place: used,
             used: used + 1,

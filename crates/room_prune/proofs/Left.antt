@@ -15,7 +15,7 @@ use Rattle.chart_spec.specs.Chart.{Chart, Order, Loop}
 use Rattle.chart_spec.specs.Chart.Chart.{empty, alt, pair, loop}
 use Rattle.chart_spec.specs.Executing.{evades, prune}
 use Rattle.chart_spec.specs.Executing.Made.{kept}
-use Rattle.node_spec.specs.declared.Node.{Node}
+use Rattle.node.specs.declared.Node.{Node}
 use Rattle.node_spec.specs.Kind.{kindOf}
 use Rattle.node_spec.specs.Kind.Pair.{composed, choice}
 use Rattle.node_spec.specs.Kind.Kind.{pairs, loops}

@@ -5,7 +5,7 @@ ghost use Prim.Native.Nat.{_<_};
 ghost use Rattle.room_spec.specs.Room.{chartIn, Table, Rooted};
 ghost use Rattle.room_spec.specs.Building.{Prunes};
 ghost use Rattle.room_prune.specs.Sides.{above, pairOf, pairIn, loopOf, loopIn};
-use node_spec::Node;
+use node::Node;
 use room_spec::Pruned;
 use room_spec::Root;
 

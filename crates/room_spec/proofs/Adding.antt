@@ -12,13 +12,13 @@ use lib.Seq.{getD-set-same, take-set-le, set-out}
 use Rattle.chart_spec.specs.Chart.{Loop}
 use Rattle.chart_spec.specs.Executing.{Made, chartOf, costOf}
 use Rattle.chart_spec.specs.Executing.Made.{kept, newEmpty, newAlt, newPair, newLoop}
-use Rattle.node_spec.specs.declared.Node.{Node}
+use Rattle.node.specs.declared.Node.{Node}
 use Rattle.node_spec.specs.Kind.{kindOf, Pair, paired}
 use Rattle.node_spec.specs.Kind.Pair.{composed, choice}
 use Rattle.node_spec.specs.Kind.Kind.{pairs, loops}
-use Rattle.room_spec.specs.Place.{nodeOf, wordOf, Fitting}
+use Rattle.node.specs.Place.{nodeOf, wordOf, Fitting}
 use Rattle.node_spec.specs.Row.{charts, stands, children, Below}
-use Rattle.room_spec.proofs.Packing.{unpacks-to-the-same-node}
+use Rattle.node.proofs.Packing.{unpacks-to-the-same-node}
 use Rattle.node_spec.proofs.Ranges.{zero-is-nothing}
 use Rattle.node_spec.proofs.Numbering.{Known, known-kinds}
 use Rattle.node_spec.proofs.Rows.{stands-alike}

@@ -9,7 +9,7 @@ use mathlib.Core.Path.{_≡_, refl, ap, sym, _∙_}
 use Rattle.chart_spec.specs.Chart.{Chart, Order, Loop}
 use Rattle.chart_spec.specs.Chart.Chart.{empty, alt, pair, loop}
 use Rattle.chart_spec.specs.Executing.{terminates, evades}
-use Rattle.node_spec.specs.declared.Node.{Node}
+use Rattle.node.specs.declared.Node.{Node}
 use Rattle.room_spec.specs.Room.{chartIn}
 use Rattle.room_spec.proofs.Apart.{Reading, empty-here, order-here, alt-here, loop-here, unknown-here}
 

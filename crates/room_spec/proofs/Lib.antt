@@ -1,5 +1,4 @@
 -- Laws of rooms, and of what is built in them.
-pub mod Packing
 pub mod Standing
 pub mod Adding
 pub mod Apart

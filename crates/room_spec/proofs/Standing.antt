@@ -8,7 +8,7 @@ use native.Mathlib.Omega.{arith}
 use lib.ListN.{length, getD, take, drop, take-append-drop, length-take, length-map, List·getD-map}
 use lib.Seq.{getD-take, take-take}
 use Rattle.chart_spec.specs.Chart.Chart.{empty}
-use Rattle.room_spec.specs.Place.{nodeOf}
+use Rattle.node.specs.Place.{nodeOf}
 use Rattle.node_spec.specs.Row.{charts, stands, children, Below}
 use Rattle.node_spec.proofs.Rows.{charts-keep, charts-at}
 use Rattle.room_spec.specs.Room.{nodesIn, nodeIn, chartIn, Table, Kept}

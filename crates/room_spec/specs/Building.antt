@@ -10,8 +10,8 @@ use Rattle.chart_spec.specs.Action as chart
 use Rattle.chart_spec.specs.Chart.{Chart}
 use Rattle.chart_spec.specs.Executing.{Made, chartOf, costOf, evades, prune}
 use Rattle.chart_spec.specs.Executing.Made.{newEmpty}
-use Rattle.node_spec.specs.declared.Node.{Node}
-use Rattle.room_spec.specs.Place.{wordOf}
+use Rattle.node.specs.declared.Node.{Node}
+use Rattle.node.specs.Place.{wordOf}
 use Rattle.room_spec.specs.declared.Action.{Action}
 use Rattle.room_spec.specs.declared.Root.{Root}
 use Rattle.room_spec.specs.declared.Pruned.{Pruned}

@@ -7,8 +7,8 @@ use mathlib.Core.Path.{_≡_}
 use lib.ListN.{length, getD, take}
 use Rattle.chart_spec.specs.Chart.{Chart}
 use Rattle.chart_spec.specs.Chart.Chart.{empty}
-use Rattle.node_spec.specs.declared.Node.{Node}
-use Rattle.room_spec.specs.Place.{nodeOf}
+use Rattle.node.specs.declared.Node.{Node}
+use Rattle.node.specs.Place.{nodeOf}
 use Rattle.node_spec.specs.Row.{charts, children, Below}
 
 -- The nodes of a room: "a lent run of 32-bit numbers, one a place" (01, How a log is executed).

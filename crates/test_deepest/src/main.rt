@@ -5,7 +5,7 @@ ghost use mathlib.Core.Path.{_≡_};
 ghost use Prim.Native.Nat.{suc, _<_, _≤_};
 ghost use lib.ListN.{length};
 ghost use Rattle.room_spec.specs.Room.{Table, Rooted};
-use node_spec::Node;
+use node::Node;
 use room_lay::Laid;
 use room_spec::Action;
 use room_spec::Executed;

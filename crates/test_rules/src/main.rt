@@ -4,7 +4,7 @@
 ghost use Prim.Native.Nat.{_<_, _≤_};
 ghost use lib.ListN.{length};
 ghost use Rattle.room_spec.specs.Room.{Table, Rooted, Kept};
-use node_spec::Node;
+use node::Node;
 use room_lay::Laid;
 use room_spec::Action;
 use room_spec::Executed;

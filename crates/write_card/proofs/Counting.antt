@@ -6,7 +6,7 @@ use mathlib.Core.Path.{_≡_, refl, ap, _∙_}
 use native.Mathlib.Decide.{decLe}
 use native.Mathlib.Omega.{arith}
 use Rattle.chart_spec.specs.Chart.{Chart, size}
-use Rattle.node_spec.specs.declared.Node.{Node}
+use Rattle.node.specs.declared.Node.{Node}
 use Rattle.node_spec.specs.Kind.{Pair, paired}
 use Rattle.node_spec.specs.Kind.Pair.{composed, choice}
 use Rattle.node_spec.proofs.Ranges.{three-to-six-are-pairs}

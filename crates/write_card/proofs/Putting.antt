@@ -9,7 +9,7 @@ use lib.ListN.{length, set, length-append}
 use lib.Seq.{sets, length-sets}
 use Rattle.chart_spec.specs.Chart.{Chart, size}
 use Rattle.chart_spec.specs.Chart.Chart.{empty, act}
-use Rattle.node_spec.specs.declared.Node.{Node}
+use Rattle.node.specs.declared.Node.{Node}
 use Rattle.node_spec.specs.Kind.{numberOf, Pair, paired}
 use Rattle.node_spec.specs.Kind.Pair.{composed, choice}
 use Rattle.node_spec.specs.Kind.Kind.{nothing, action, pairs, loops}

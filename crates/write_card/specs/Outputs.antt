@@ -7,7 +7,7 @@ use mathlib.Core.Path.{_≡_}
 use lib.ListN.{length}
 use lib.Seq.{sets}
 use Rattle.chart_spec.specs.Chart.{Chart, size}
-use Rattle.node_spec.specs.declared.Node.{Node}
+use Rattle.node.specs.declared.Node.{Node}
 use Rattle.card_spec.specs.Meaning.{Declared}
 use Rattle.write_spec.specs.Rows.{written}
 use Rattle.write_spec.specs.Cards.{recordOf, recordsOf}

@@ -10,7 +10,7 @@ ghost use Rattle.chart_spec.specs.Chart.{size};
 ghost use Rattle.room_spec.specs.Room.{chartIn, Rooted};
 ghost use Rattle.write_spec.specs.Cards.{trailerOf, cardBytes, cardOf, Holds};
 ghost use Rattle.write_card.specs.Outputs.{Storable, Stores, Writable, Writes};
-use node_spec::Node;
+use node::Node;
 
 // How many nodes a part has.
 fn count(room: &[u32], place: u32) -> u32

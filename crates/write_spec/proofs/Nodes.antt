@@ -14,7 +14,7 @@ use lib.Seq.{getD-at}
 use borrow.Author.Tests.{eq-eqb, ne-eqb, lt-ltb, le-ltb}
 use Rattle.chart_spec.specs.Chart.{Chart, size}
 use Rattle.chart_spec.specs.Chart.Chart.{empty, act, alt, pair, loop}
-use Rattle.node_spec.specs.declared.Node.{Node}
+use Rattle.node.specs.declared.Node.{Node}
 use Rattle.node_spec.specs.Kind.{kindOf, Pair, paired}
 use Rattle.node_spec.specs.Kind.Pair.{composed, choice}
 use Rattle.node_spec.specs.Kind.Kind.{nothing, action, pairs, loops}

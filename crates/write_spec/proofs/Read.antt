@@ -10,7 +10,7 @@ use lib.ListN.{length, getD, take, drop, length-append, List·getD-append}
 use lib.Seq.{take-suc, take-length, take-at, getD-append-add}
 use borrow.Author.Tests.{eq-eqb, le-leb}
 use Rattle.chart_spec.specs.Chart.{Chart, size}
-use Rattle.node_spec.specs.declared.Node.{Node}
+use Rattle.node.specs.declared.Node.{Node}
 use Rattle.node_spec.specs.Kind.{kindOf}
 use Rattle.node_spec.specs.Row.{chart, uses}
 use Rattle.card_spec.specs.declared.Finding.the-variants.{Fine}

@@ -3,7 +3,7 @@
 use Prim.Native.Nat.{ℕ, _+_, _*_, _/_, _%_, _≤_}
 use mathlib.Core.List.{List, [], _∷_, _++_}
 use Rattle.chart_spec.specs.Chart.{Chart, size, depth}
-use Rattle.node_spec.specs.declared.Node.{Node}
+use Rattle.node.specs.declared.Node.{Node}
 use Rattle.card_spec.specs.Meaning.{Declared}
 use Rattle.write_spec.specs.Rows.{written}
 

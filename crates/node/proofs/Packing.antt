@@ -7,8 +7,8 @@ use mathlib.Core.Path.{_≡_}
 use native.Mathlib.Omega.{arith}
 use lib.Bits.{bitAnd, bitOr, and-mask, mask-lt, or-shifted}
 use lib.Pow.{shl-exact}
-use Rattle.node_spec.specs.declared.Node.{Node}
-use Rattle.room_spec.specs.Place.{joined, wordOf, nodeOf, Fitting}
+use Rattle.node.specs.declared.Node.{Node}
+use Rattle.node.specs.Place.{joined, wordOf, nodeOf, Fitting}
 
 -- A shift and a mask join two numbers, if nothing is shifted out of the word.
 pub shift-and-mask-join :

@@ -1,8 +1,8 @@
--- `unpack` meets its contract: a mask is a remainder. Assumes nothing.
+-- `Node::unpack` meets its contract: a mask is a remainder. Assumes nothing.
 use Prim.Native.Nat.{_/_, _^_}
 use lib.Bits.{and-mask}
-use Rattle.room_places.proofs.unpack.Statement.{statement}
-use Rattle.room_places.proofs.unpack.Tie as tie
+use Rattle.node.proofs.Node.unpack.Statement.{statement}
+use Rattle.node.proofs.Node.unpack.Tie as tie
 
 returns : tie.Need-returns
 returns c = rw (and-mask (c .args .word / 2 ^ 14) 14, and-mask (c .args .word) 14)

@@ -2,7 +2,7 @@
 -- place of the room.
 -- Assumes nothing.
 use Prim.Native.Nat.{ℕ, _+_, _*_, _/_, _%_, _^_, _<_}
-use Rattle.node_spec.specs.declared.Node.{Node}
+use Rattle.node.specs.declared.Node.{Node}
 
 -- Two numbers in one: low in the lowest `width` bits, high above them.
 abbrev pub joined : ℕ → ℕ → ℕ → ℕ

@@ -1,0 +1,2 @@
+-- Laws of packing.
+pub mod Packing
