@@ -1,4 +1,4 @@
-/* Cuts lifeline 0 out of alt(0!0, 1!0), an example of document 01. Prints number, place, length and the bytes written. */
+/* Cuts lifeline 0 out of alt(0!0, 1!0), document 01's example. Prints number, place, length and the bytes written. */
 #include "../include/airpistil.h"
 
 #include <stdio.h>
@@ -11,7 +11,7 @@ static const uint8_t card[] = {
     0x0C, 0x00, 0x02, 0x01, 0x57, 0x4C, /* 12 bytes of nodes, 2 lifelines, 1 message */
 };
 
-static uint8_t out[sizeof card];
+static uint8_t out[AIRPISTIL_CUT_BYTES];
 
 int main(void)
 {
@@ -21,5 +21,5 @@ int main(void)
     for (uint32_t i = 0; i < answer.length; i++)
         printf(" %02x", out[i]);
     printf("\n");
-    return answer.number == 0 ? 0 : 1;
+    return answer.number == AIRPISTIL_OK ? 0 : 1;
 }

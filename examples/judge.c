@@ -12,26 +12,26 @@ static const uint8_t card[] = {
 };
 static const uint8_t log_bytes[] = {0x00, 0x00, 0x03, 0x00}; /* 0!0 1?0 */
 
-static uint32_t room[16384];
+static uint32_t room[AIRPISTIL_ROOM];
 
 int main(void)
 {
     struct airpistil_judged judged =
-        airpistil_judge(card, sizeof card, log_bytes, sizeof log_bytes, 1000000, room, sizeof room / sizeof room[0]);
+        airpistil_judge(card, sizeof card, log_bytes, sizeof log_bytes, 1000000, room, AIRPISTIL_ROOM);
 
     switch (judged.number) {
-    case 20:
+    case AIRPISTIL_ACCEPTED:
         printf("accepted");
         break;
-    case 21:
+    case AIRPISTIL_SHORT:
         printf("short");
         break;
-    case 22:
+    case AIRPISTIL_DEVIATES:
         printf("deviates");
         break;
     default:
         printf("refused-%u", (unsigned)judged.number);
     }
     printf(" %u %u %u\n", (unsigned)judged.place, (unsigned)judged.steps, (unsigned)judged.places);
-    return judged.number == 20 ? 0 : 1;
+    return judged.number == AIRPISTIL_ACCEPTED ? 0 : 1;
 }

@@ -1,17 +1,15 @@
 /*
- * small_stack DIR judges the log DIR/log by the card DIR/chart in a thread that has the stack which airpistil.h asks for,
- * 128 KB, and prints number, place, steps and places. The lending is the program's.
+ * small_stack DIR judges the log DIR/log by the card DIR/chart in a thread that has just the stack that airpistil.h
+ * asks for, and prints number, place, steps and places. Allowance and room are the program's.
  */
 #include "../include/airpistil.h"
 
 #include <pthread.h>
 #include <stdio.h>
 
-#define STACK (128 * 1024)
-
-static uint8_t card[4097], log_bytes[257];
+static uint8_t card[AIRPISTIL_CARD_BYTES + 1], log_bytes[AIRPISTIL_LOG_BYTES + 1];
 static size_t card_len, log_len;
-static uint32_t room[16384];
+static uint32_t room[AIRPISTIL_ROOM];
 static struct airpistil_judged judged;
 
 static size_t read_file(const char *dir, const char *name, uint8_t *bytes, size_t most)
@@ -30,7 +28,7 @@ static size_t read_file(const char *dir, const char *name, uint8_t *bytes, size_
 
 static void *judge(void *unused)
 {
-    judged = airpistil_judge(card, card_len, log_bytes, log_len, 1000000, room, 16384);
+    judged = airpistil_judge(card, card_len, log_bytes, log_len, 1000000, room, AIRPISTIL_ROOM);
     return unused;
 }
 
@@ -42,7 +40,7 @@ int main(int argc, char **argv)
         return 2;
     card_len = read_file(argv[1], "chart", card, sizeof card);
     log_len = read_file(argv[1], "log", log_bytes, sizeof log_bytes);
-    if (pthread_attr_init(&small) != 0 || pthread_attr_setstacksize(&small, STACK) != 0)
+    if (pthread_attr_init(&small) != 0 || pthread_attr_setstacksize(&small, AIRPISTIL_STACK_BYTES) != 0)
         return 1;
     if (pthread_create(&thread, &small, judge, NULL) != 0 || pthread_join(thread, NULL) != 0)
         return 1;
