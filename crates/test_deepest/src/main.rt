@@ -115,7 +115,7 @@ fn run(card: &[u8], room: &mut [u32])
     requires { ⌜ length (now room) ≤ 16384 ⌝ }
 {
     let checked = card_check::check(card);
-    if checked.number != 0 {
+    if checked.number != number::OK {
         return;
     }
     let laid = room_lay::lay(card, room);

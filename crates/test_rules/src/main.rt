@@ -166,7 +166,7 @@ fn show_in(card: &[u8], steps: &[u8], room: &mut [u32])
     requires { ⌜ length (now room) ≤ 16384 ⌝ }
 {
     let checked = card_check::check(card);
-    if checked.number != 0 {
+    if checked.number != number::OK {
         return;
     }
     let laid = room_lay::lay(card, room);
