@@ -1,5 +1,6 @@
-// The C interface: each function hands its bytes to the call of the same name and hands back what that answers, which is
-// defined in card_spec, judge_spec and cut_spec. include/airpistil.h declares and documents them.
+// The C interface. Each function but `airpistil_version` calls the function of the same name in `card_check`, `judge`
+// or `cut` and returns its answer, or for a note its length. The answers are defined in card_spec, judge_spec and
+// cut_spec. include/airpistil.h declares and documents these functions.
 ghost use mathlib.Core.Path.{_≡_};
 ghost use lib.ListN.{length};
 ghost use Rattle.card_spec.specs.Checking.{checking};
@@ -10,7 +11,8 @@ use card_spec::Checked;
 use cut_spec::CutAnswer;
 use judge_spec::Judged;
 
-// The version of this library, 1.0.0: 10,000 times the first number, and 100 times the second, and the third.
+// The version of this library, 1.0.0, as one number: 10,000 times the first part, plus 100 times the second, plus the
+// third.
 const VERSION: u32 = 10000;
 
 #[no_mangle]
@@ -28,8 +30,8 @@ pub extern "C" fn airpistil_check(card: &[u8]) -> Checked
     card_check::check(card)
 }
 
-// How many of the card's leading bytes are its note. (A part of the caller's bytes can't be handed back to C; its
-// length can.)
+// How many of the card's leading bytes are its note. (C cannot be handed a part of the caller's bytes, only its
+// length.)
 #[no_mangle]
 pub extern "C" fn airpistil_note(card: &[u8]) -> usize
     ensures { λ r. ⌜ r ≡ length (noteOf (now (card .entry))) ⌝ }

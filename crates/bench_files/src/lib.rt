@@ -1,4 +1,4 @@
-// The program's work: the files `chart` and `log` of its working directory are read and judged, and one line is written
+// The program's work: it reads the files `chart` and `log` in its working directory, judges them, and writes one line
 // (01, "Logs worked by hand"). What it tells of their contents is defined in bench_spec/specs/Telling.antt, the line in
 // bench_spec/specs/Spelling.antt.
 ghost use mathlib.Core.Path.{_≡_};
@@ -16,12 +16,12 @@ const ALLOWANCE: u32 = 1000000;
 
 const ROOM: usize = Node::PLACES;
 
-// The bytes for a card and for a log: one more than each may have, so that a longer file is seen to be too long.
+// How many bytes a card and a log are read into: one more than each may have, so that a longer file is found too long.
 const CARD: usize = Node::CARD_BYTES + 1;
 
 const LOG: usize = log::MOST_BYTES + 1;
 
-// Reads a file to its end, or as far as the lent bytes go. A file that is missing has no descriptor.
+// Reads a file to its end, or as far as the lent bytes go. A negative descriptor says that the file is missing.
 fn read(file: i32, bytes: &mut [u8]) -> Content
     ensures { λ r. ⌜ OnlyIfOpen r file × ReadInto (now (bytes .exit)) r ⌝ }
 {
@@ -50,7 +50,7 @@ fn read_named(name: &[u8], bytes: &mut [u8]) -> Content
     content
 }
 
-// What is told of the contents of `chart` and `log`, which were read into these bytes.
+// What the program tells of the contents of `chart` and `log`, which were read into these bytes.
 fn judge_contents(
     chart: Content,
     card: &[u8],
@@ -72,7 +72,7 @@ fn judge_contents(
     Told::Answer(judge::judge(&card[0..card_end], &actions[0..log_end], ALLOWANCE, room))
 }
 
-// Writes a line. That these are the bytes of the line is asked, since no contract can say what was written.
+// Writes a line. Its contract asks that these are the bytes of the line, since no contract can say what was written.
 fn write(line: &[u8], told: Told)
     requires { ⌜ now line ≡ printed (lineOf told) ⌝ }
 {

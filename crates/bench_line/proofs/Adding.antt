@@ -1,4 +1,4 @@
--- What is put to a text piece by piece is put to it as a whole, and a text has room for the pieces that are left.
+-- Adding bytes to a text piece by piece adds them as a whole, and the text keeps room for the pieces that are left.
 -- Assumes nothing.
 use Prim.Native.Nat.{ℕ, _+_, _≤_}
 use mathlib.Core.List.{List, [], _++_, append-nil, append-assoc}
@@ -11,7 +11,7 @@ use Rattle.bench_line.specs.Texts.{said, Fits, Adds, Says}
 pub adds-nothing : (t : Text) {more : ℕ} → Fits t more → Adds t [] t
 adds-nothing t f = record { whole = f .whole; longer = omega arith; says = sym (append-nil (said t)) }
 
--- The same bytes in other words.
+-- The added bytes, written in another way.
 pub adds-so : {t u : Text} {l m : List ℕ} → m ≡ l → Adds t l u → Adds t m u
 adds-so {t} {u} e a = subst (λ bytes. Adds t bytes u) (sym e) a
 
@@ -31,7 +31,7 @@ pub fits-the-rest :
     {t u : Text} {l : List ℕ} {more rest : ℕ} → Fits t more → Adds t l u → length l + rest ≤ more → Fits u rest
 fits-the-rest f a h = record { whole = a .whole; enough = omega (arith, f .enough, a .longer) }
 
--- What is put to the empty text is all that it says.
+-- What is added to the empty text is all that the result says.
 pub says-all : {t u : Text} {l : List ℕ} → Fits t 52 → Adds t l u → u .end ≤ 52 → Says l u
 says-all {t} {u} {l} f a h =
     let none : t .end ≡ 0 = omega (arith, f .enough) in

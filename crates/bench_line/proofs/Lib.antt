@@ -1,2 +1,2 @@
--- Laws of a text to which bytes are put.
+-- Laws of adding bytes to a text.
 pub mod Adding

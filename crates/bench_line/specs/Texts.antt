@@ -1,4 +1,4 @@
--- Working definitions, which nobody has to believe: what a text says that is being spelled.
+-- Working definitions, which nobody has to believe: what a text says while it is being spelled.
 -- Assumes nothing.
 use Prim.Native.Nat.{ℕ, _+_, _≤_}
 use mathlib.Core.List.{List, _++_}
@@ -10,18 +10,18 @@ use Rattle.bench_line.specs.declared.Text.{Text}
 abbrev pub said : Text → List ℕ
 said t = take (t .end) (t .bytes)
 
--- A text has room for so many bytes more.
+-- The text has room left for `more` bytes.
 pub record Fits (t : Text) (more : ℕ) : Type 0 where
   pub whole : length (t .bytes) ≡ 52
   pub enough : t .end + more ≤ 52
 
--- A text says what another says, and more behind it.
+-- The text r says what t says, and `more` after it.
 pub record Adds (t : Text) (more : List ℕ) (r : Text) : Type 0 where
   pub whole : length (r .bytes) ≡ 52
   pub longer : r .end ≡ t .end + length more
   pub says : said r ≡ said t ++ more
 
--- A text says just this.
+-- The text r says exactly l.
 pub record Says (l : List ℕ) (r : Text) : Type 0 where
   pub within : r .end ≤ length (r .bytes)
   pub says : said r ≡ l

@@ -7,10 +7,11 @@ ghost use Rattle.bench_line.specs.Texts.{Fits, Adds, Says};
 use bench_spec::Told;
 use judge_spec::Judged;
 
-// The bytes of the longest line: refused-N, three numbers behind blanks, each number of ten digits, and the line's end.
+// The length of the longest line: `refused-N`, three times a blank and a number, and the line's end; N and each number
+// have at most ten digits.
 const LONGEST: usize = 52;
 
-// The first bytes, up to the end, of a line that is being spelled.
+// A line that is being spelled: `bytes` up to `end`.
 pub struct Text {
     pub bytes: [u8; LONGEST],
     pub end: usize,
@@ -63,7 +64,7 @@ fn with_word(text: Text, number: u32) -> Text
     }
 }
 
-// A number behind a blank.
+// A blank, and then the number.
 fn with_apart(text: Text, number: u32) -> Text
     requires { ⌜ Fits text (length (apart number)) ⌝ }
     ensures { λ r. ⌜ Adds text (apart number) r ⌝ }
@@ -90,7 +91,7 @@ fn judged_line(judged: Judged) -> Text
     with_byte(places, b'\n')
 }
 
-// The line of what is told.
+// The line for what the program tells.
 pub fn spell(told: Told) -> Text
     ensures { λ r. ⌜ Says (printed (lineOf told)) r ⌝ }
 {

@@ -1,5 +1,5 @@
--- What an answer of read comes to, by the tests that code makes of it: negative, zero, or how many bytes. Code reads
--- the number out of the answer's bits.
+-- What an answer of `read` means, by the tests that the code makes of it: negative, zero, or a number of bytes. The
+-- code reads the number out of the answer's bits.
 -- Assumes nothing.
 use Prim.Native.Nat.{ℕ, zero, suc, _+_, _-_, _<_, _≤_}
 use mathlib.Core.Bool.{Bool, true, false}
@@ -79,7 +79,7 @@ module _ (got : ℤ) (p : Positive got) where
       subst (λ z. afterRead end long got ≡ soFar (eqb (end + natAbs z) long) (end + natAbs z)) (sym read-out)
       (ap (afterRead end long) (counted .same))
 
--- Reading goes on with more bytes than before, and fewer than there is room for.
+-- If reading goes on, more bytes were read than before, and no more than fit.
 module _ (end long : ℕ) (inside : end ≤ long) where
   on-from : (all : Bool) (k read : ℕ) → suc k ≤ long - end
       → soFar all (end + suc k) ≡ On read → (end < read) × (read ≤ long)
@@ -101,7 +101,7 @@ module _ (end long : ℕ) (inside : end ≤ long) where
   ends-within (pos zero) n m e = let this : end ≡ n = cc in omega arith
   ends-within (pos (suc k)) n m e = ended-by (eqb (end + suc k) long) k n m e
 
-  -- What reading ends with was read into bytes of that number.
+  -- The content with which reading ends was read into `long` bytes.
   pub ends : (got : ℤ) (content : Content) (bytes : List ℕ) → length bytes ≡ long → Moved (long - end) got
       → afterRead end long got ≡ Ended content → ReadInto bytes content
   ends got (Bytes n) bytes same m e = omega (arith, ends-within got n m e)

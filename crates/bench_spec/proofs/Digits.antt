@@ -1,5 +1,6 @@
--- The digits of a number: one for a number below 10; else those of its tenth, and the last. That ten are enough for a
--- number of 32 bits is used in the second: more digits than a number has change nothing.
+-- The digits of a number: one for a number below 10; any other has those of `n / 10` first, and then the last. The
+-- second law uses that ten digits are enough for a number of 32 bits: allowing more digits than a number has changes
+-- nothing.
 -- Assumes nothing.
 use Prim.Native.Nat.{ℕ, zero, suc, _+_, _/_, _%_, _*_, _^_, _≤_, _<_}
 use mathlib.Core.Bool.{Bool, true, false, cond}

@@ -1,4 +1,4 @@
--- Laws of what is told and of the line. A reader begins at the end, with Promises.
+-- Laws of what the program tells and of the line. Begin at the end, with Promises.
 pub mod Digits
 pub mod Words
 pub mod Promises

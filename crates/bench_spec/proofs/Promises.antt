@@ -1,7 +1,7 @@
 -- What is promised of the program, for whoever reads nothing else: each sentence of 01 on it, as a theorem that only
--- cites others. Of the contents that were read of `chart` and `log` the program tells `toldOf`
--- (bench_files/src/lib.rt), and writes `printed` of the line of it (bench_line/src/lib.rt). What is said here of
--- these definitions is therefore said of the code. That the contents are the files' own is not said: no contract can
+-- cites others. The program tells `toldOf` of the contents that it read from `chart` and `log`
+-- (bench_files/src/lib.rt), and writes `printed` of the line for it (bench_line/src/lib.rt). What holds here of these
+-- definitions therefore holds of the code. Nothing here says that the contents are the files' own: no contract can
 -- speak of what is in a file.
 -- Assumes nothing.
 use Prim.Native.Nat.{ℕ, _<_}
@@ -34,7 +34,7 @@ module _ (card log : List ℕ) (long : ℕ) where
       → s ≡ toldOf chart card actions log long → r ≡ s
   no-second-telling chart actions e f = e ∙ sym f
 
-  -- "If either file is missing": that is told exactly then.
+  -- "If either file is missing": the program tells so exactly then.
   pub no-file-exactly-if-one-is-missing :
       (chart actions : Content)
       → (toldOf chart card actions log long ≡ NoFile) ↔ ((chart ≡ Nothing) ⊎ (actions ≡ Nothing))
@@ -55,8 +55,8 @@ module _ (card log : List ℕ) (long : ℕ) where
       told (Bytes m) Nothing e = refl
       told Nothing actions e = refl
 
--- A file that is too long is read far enough to be refused: what it is read into is one byte longer than a card or a
--- log may be (`Reports`, specs/Telling.antt), and is filled.
+-- A file that is too long is read far enough to be refused: the bytes that it is read into are one more than a card or
+-- a log may have (`Reports`, specs/Telling.antt), and it fills them.
 module _ (card log lent : List ℕ) where
   pub a-longer-card-is-refused :
       length card ≡ 4097 → (n : ℕ) → judgment (take 4097 card) (take n log) allowance (length lent) .number ≡ 1
@@ -95,7 +95,7 @@ unfolding decimal
 a-missing-file-is-printed = refl
 
 -- "With chart 01 00 00 00 02 01 00 00 03 00 01 00 0C 00 02 01 57 4C and log 00 00 03 00 it prints exactly
--- accepted 2 2 6": these are the 18 and the 4 bytes that were read, whatever stands behind them.
+-- accepted 2 2 6": these are the 18 and the 4 bytes that were read, whatever stands after them.
 pub it-prints-exactly :
     (behind more : List ℕ)
     → printed (lineOf (toldOf (Bytes 18) (card.printed ++ behind) (Bytes 4) (printedLog ++ more) room))

@@ -1,4 +1,4 @@
--- The line that the program prints, as word and three numbers and as bytes.
+-- The line that the program prints: as a word and three numbers, and as bytes.
 -- Assumes nothing.
 use Prim.Native.Nat.{ℕ, zero, suc, _+_, _/_, _%_}
 use Prim.Native.Char.{code}
@@ -14,11 +14,11 @@ abbrev pub bytes : String → List ℕ
 bytes none = []
 bytes (letter then text) = code letter ∷ bytes text
 
--- The digit of a number below 10; 48 is that of 0.
+-- The byte that prints a number below 10; 48 prints 0.
 abbrev pub digit : ℕ → ℕ
 digit n = 48 + n
 
--- A number of at most so many digits: its digits, the highest first.
+-- The digits of a number that has at most so many of them, the highest first.
 abbrev pub digits : ℕ → ℕ → List ℕ
 digits zero n = []
 digits (suc k) n =
@@ -44,7 +44,7 @@ pub record Line : Type 0 where
   pub steps : ℕ
   pub places : ℕ
 
--- The line of what is told. "If either file is missing it prints `no-file 0 0 0`" (01, Logs worked by hand).
+-- The line for what the program tells. "If either file is missing it prints `no-file 0 0 0`" (01, Logs worked by hand).
 abbrev pub lineOf : Told → Line
 lineOf (Answer judged) =
     record {
@@ -55,10 +55,10 @@ lineOf (Answer judged) =
     }
 lineOf NoFile = record { word = bytes "no-file"; place = 0; steps = 0; places = 0 }
 
--- A number behind a blank.
+-- A blank, and then the number.
 abbrev pub apart : ℕ → List ℕ
 apart n = bytes " " ++ decimal n
 
--- A line as it is printed, with its end (10).
+-- A line as it is printed, with the line's end (the byte 10).
 abbrev pub printed : Line → List ℕ
 printed l = (((l .word ++ apart (l .place)) ++ apart (l .steps)) ++ apart (l .places)) ++ (10 ∷ [])

@@ -17,13 +17,13 @@ allowance = 1_000_000
 abbrev pub room : ℕ
 room = 16_384
 
--- A content that was read into lent bytes: there are as many of them as it says, at least.
+-- A content was read into these lent bytes: there are at least as many as it says.
 abbrev pub ReadInto : List ℕ → Content → Type 0
 ReadInto bytes (Bytes n) = n ≤ length bytes
 ReadInto bytes Nothing = Unit
 
--- What is told of the contents of `chart` and `log`, read into these bytes, with a room of that length: the judgment of
--- what was read; "if either file is missing", that it is (01, Logs worked by hand).
+-- What the program tells of the contents of `chart` and `log`, read into these bytes, with a room of length `long`: the
+-- judgment of what was read; or, "if either file is missing", just that (01, Logs worked by hand).
 abbrev pub toldOf : Content → List ℕ → Content → List ℕ → ℕ → Told
 toldOf (Bytes m) card (Bytes n) log long = Answer (judgment (take m card) (take n log) allowance long)
 toldOf (Bytes m) card Nothing log long = NoFile
@@ -35,9 +35,9 @@ roomTold (Bytes m) card (Bytes n) log found = roomAfter (take m card) (take n lo
 roomTold (Bytes m) card Nothing log found = found
 roomTold Nothing card content log found = found
 
--- What the program reports: what is told of some contents of the two files, with 01's lending. Each was read into one
--- byte more than a card or a log may have, so that a longer file is seen to be too long. Which bytes a file has no
--- contract can say.
+-- What the program reports: what it tells of some contents of the two files, with 01's lending. Each file was read into
+-- one byte more than a card or a log may have, so that a longer file is found too long. No contract can say which bytes
+-- a file has.
 pub record Reports (told : Told) : Type 0 where
   pub chart : Content
   pub log : Content

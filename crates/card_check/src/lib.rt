@@ -1,5 +1,5 @@
-// The checks of a card: any run of bytes gets its one answer as a chart card (01, "The chart card" and numbers 1 to 6
-// of "Verdicts and numbers given"). The answer is defined in card_spec/specs/Checking.antt, the note in
+// The check of a card: every run of bytes gets exactly one answer as a chart card (01, "The chart card" and numbers 1
+// to 6 of "Verdicts and numbers given"). The answer is defined in card_spec/specs/Checking.antt, the note in
 // card_spec/specs/Note.antt.
 ghost use denote.Ref.{ptr};
 ghost use mathlib.Core.Path.{_≡_};
@@ -23,8 +23,8 @@ fn refused(number: u32, place: u32) -> Checked
     }
 }
 
-// The answer to any run of bytes as a card. The rules stand in the order of 01's table: the first that is broken
-// answers.
+// The answer to any run of bytes as a card. The rules stand in the order of 01's table, and the first broken rule gives
+// the answer.
 pub fn check(card: &[u8]) -> Checked
     ensures { λ r. ⌜ r ≡ checking (now (card .entry)) ⌝ }
 {

@@ -25,7 +25,7 @@ pub fn is_framed(card: &[u8]) -> bool
     card_parts::trailer(card, 5) == 0x4C
 }
 
-// 2: the back distance takes whole nodes, one to 255 of them, and all of them stand in the card.
+// 2: the back distance spans whole nodes, one to 255 of them, and all of them lie within the card.
 pub fn is_back_in_rule(card: &[u8]) -> bool
     ensures { λ r. ⌜ r ≡ backInRule (now (card .entry)) ⌝ }
 {

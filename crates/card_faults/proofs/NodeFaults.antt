@@ -1,4 +1,4 @@
--- The fault of one node, by what was read of it.
+-- The fault of one node, from what was read of it.
 -- Assumes nothing.
 use Prim.Native.Nat.{ℕ}
 use mathlib.Core.Bool.{Bool, cond}
@@ -8,7 +8,7 @@ use Rattle.node.specs.declared.Node.{Node}
 use Rattle.card_spec.specs.Nodes.{nodeAt, spareAt}
 use Rattle.card_spec.specs.Findings.{inOrder, faultOf}
 
--- A node's fault by what was read of it.
+-- What was read of a node gives its fault.
 pub fault-as-read :
     (lifelines messages i : ℕ) (nodes : List ℕ) (n : Node) (c : ℕ) (ok : Bool)
     → n ≡ nodeAt nodes i → c ≡ spareAt nodes i → ok ≡ inOrder lifelines messages i n c

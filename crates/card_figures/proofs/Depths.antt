@@ -1,4 +1,4 @@
--- The depths of the nodes, in one pass: each node's from those of its children.
+-- The depths of the nodes, found in one pass: each from the depths of its children.
 -- Assumes nothing.
 use Prim.Native.Nat.{ℕ, zero, suc, _+_, _-_, _<_, _≤_}
 use mathlib.Core.List.{List, [], _∷_}
@@ -25,7 +25,7 @@ highest-same :
 highest-same f g n [] h e = refl
 highest-same f g n (k ∷ ks) (h, hs) e = omega (arith, e k h, highest-same f g n ks hs e)
 
--- The depth of chart j of the first i nodes.
+-- The depth of the chart that node j stands for, in the row of the first i nodes.
 abbrev depthAt : List ℕ → ℕ → ℕ → ℕ
 depthAt nodes i j = depth (getD (charts (rowTo nodes i)) j empty)
 

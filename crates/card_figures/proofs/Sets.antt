@@ -1,4 +1,4 @@
--- A set of numbers as bits: the bits of one number, of two sets joined, and how many bits are one.
+-- A set of numbers as bits: the bits of a set with one number, the bits of two sets joined, and how many bits are one.
 -- All by induction on the number of bits.
 -- Assumes nothing.
 use Prim.Native.Nat.{ℕ, zero, suc, _+_, _*_, _%_, _^_, _<_, _≤_}
@@ -27,13 +27,13 @@ unfolding bitsOf
 bits-same p q h zero = refl
 bits-same p q h (suc n) = rw (h n, bits-same p q h n)
 
--- No number, no bit.
+-- A set without numbers has no bits.
 pub bits-none : (p : ℕ → Bool) → ((d : ℕ) → p d ≡ false) → (n : ℕ) → bitsOf p n ≡ 0
 unfolding bitsOf
 bits-none p h zero = refl
 bits-none p h (suc n) = rw (h n, bits-none p h n) (omega arith)
 
--- The bits of one number, above it and at it.
+-- The set of the one number a, as n bits: it is 0 as long as n is at most a, and 2 ^ a above.
 bits-below : (a n : ℕ) → n ≤ a → bitsOf (λ d. eqb a d) n ≡ 0
 unfolding bitsOf
 bits-below a zero h = refl
@@ -81,7 +81,7 @@ unfolding ones
 ones-of-a-bit true = refl
 ones-of-a-bit false = refl
 
--- The ones are counted.
+-- A set has as many ones as numbers.
 pub ones-of-bits : (p : ℕ → Bool) (n : ℕ) → ones (bitsOf p n) ≡ tally p n
 unfolding bitsOf tally ones
 ones-of-bits p zero = refl
@@ -119,7 +119,7 @@ module _ (n : Node) where
   pub no-actor-above : 3 ≤ n .kind → bitsOf actor 16 ≡ 0
   no-actor-above low = bits-none actor (no-actor low) 16
 
--- One more node, one more lifeline.
+-- One more node adds its own lifeline, if it acts.
 acts-more : (row : List Node) (n : Node) (d : ℕ)
     → acts (row ++ (n ∷ [])) d ≡ (acts row d || actsAs (kindOf (n .kind)) n d)
 acts-more [] n d = or-false (actsAs (kindOf (n .kind)) n d)
@@ -134,7 +134,7 @@ acts-more (m ∷ row) n d = rw (acts-more row n d)
     or-assoc true b c = refl
     or-assoc false b c = refl
 
--- The lifelines that act in the first i nodes, as a set; one more node joins its own.
+-- The lifelines that act in the first i nodes, as a set; one more node adds its own.
 pub one-more-acts :
     (nodes : List ℕ) (i set bits : ℕ) (n : Node)
     → n ≡ nodeAt nodes i → bits ≡ bitsOf (actsAs (kindOf (n .kind)) n) 16 → set ≡ bitsOf (acts (rowTo nodes i)) 16

@@ -33,7 +33,7 @@ fn depth_over(depths: &[u8; Node::NODES], n: Node) -> u8
     }
 }
 
-// The depth of the root, counted as 1 at a leaf.
+// The depth of the root, counting a leaf as 1.
 pub fn depth(nodes: &[u8]) -> u32
     requires { ⌜ Faultless (now nodes) ⌝ }
     ensures { λ r. ⌜ r ≡ depthOf (now (nodes .entry)) ⌝ }
@@ -48,7 +48,7 @@ pub fn depth(nodes: &[u8]) -> u32
     depths[count - 1] as u32
 }
 
-// The lifeline of an action, as a set of 16 bits; no lifeline for any other node.
+// The set that has the lifeline of an action, as 16 bits; the empty set for any other node.
 fn actor(n: Node) -> u16
     requires { ⌜ ((d : ℕ) → T (actsAs (kindOf (n .kind)) n d) → d < 16) ⌝ }
     ensures { λ r. ⌜ r ≡ bitsOf (actsAs (kindOf (n .kind)) n) 16 ⌝ }

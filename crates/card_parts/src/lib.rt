@@ -1,6 +1,6 @@
-// The parts of a card: note, nodes and a trailer of six bytes; and one node out of the bytes of the nodes (01, "The
-// chart card"). They are defined in card_spec/specs/Parts.antt and Nodes.antt, for bytes that are no card too;
-// `card_check` finds out whether they are one.
+// The parts of a card: the note, the nodes and a trailer of six bytes; and one node out of the bytes of the nodes (01,
+// "The chart card"). They are defined in card_spec/specs/Parts.antt and Nodes.antt, also for bytes that are no card;
+// `card_check` finds out whether the bytes are a card.
 ghost use mathlib.Core.Path.{_≡_};
 ghost use Prim.Native.Nat.{_<_};
 ghost use Rattle.card_spec.specs.Parts.{trailerByte, backOf, lifelinesOf, messagesOf, trailerAt, firstAt, nodesOf};
@@ -101,7 +101,7 @@ pub fn node_at(nodes: &[u8], i: usize) -> Node
     }
 }
 
-// Its fourth byte, c, which no kind uses.
+// The fourth byte of node i, c, which no kind uses.
 pub fn spare_at(nodes: &[u8], i: usize) -> u32
     requires { ⌜ i < countOf (now nodes) ⌝ }
     ensures { λ r. ⌜ r ≡ spareAt (now (nodes .entry)) i ⌝ }

@@ -1,5 +1,4 @@
--- The answer to a card, by the first rule that is broken.
--- Each is the list of findings, looked through as far as that rule.
+-- The answer to a card, given the first rule that is broken. Each law follows the list of findings as far as that rule.
 -- Assumes nothing.
 use Prim.Native.Nat.{ℕ, _≤_, _<_}
 use mathlib.Core.Bool.{true, false}
@@ -37,7 +36,7 @@ module _ (card : List ℕ) where
   unfolding checking
   answer-three h₁ h₂ h₃ = rw (h₁, h₂, h₃)
 
-  -- A card that is refused was found so.
+  -- A card that is refused has a finding with that number and place.
   pub refused-so-found :
       checking card .number ≢ 0 → first (findings card) ≡ Refused (checking card .number) (checking card .place)
   unfolding checking

@@ -1,6 +1,6 @@
--- The chart of a sound card: as many nodes as the card, every lifeline and message declared, and the lifelines that
--- act in it are those of the card's nodes. The first and the last are the law of trees at two weights; the second is
--- by induction on the row.
+-- The chart of a sound card: it has as many nodes as the card, every lifeline and message in it is declared, and the
+-- lifelines that act in it are those of the card's nodes. The first and the last follow from the law of trees for two
+-- weights; the second is by induction on the row.
 -- Assumes nothing.
 use Prim.Native.Nat.{ℕ, zero, suc, _+_, _-_, _<_}
 use mathlib.Core.Bool.{Bool, true, false, cond, _||_}
@@ -28,7 +28,7 @@ use Rattle.card_spec.specs.Meaning.{Declared, deeds}
 use Rattle.chart_spec.proofs.Tests.{both-true}
 use Rattle.card_spec.proofs.Rows.{length-row}
 
--- Children lower than their parents, along the row.
+-- Children are lower than their parents all along the row.
 lower-more :
     (i : ℕ) (row : List Node) (n : Node) → LowerFrom i row → Below (i + length row) (children n)
     → LowerFrom i (row ++ (n ∷ []))
@@ -55,7 +55,7 @@ one-more-has P [] c none all here (suc j) = none
 one-more-has P (x ∷ cs) c none all here zero = all zero
 one-more-has P (x ∷ cs) c none all here (suc j) = one-more-has P cs c none (λ k. all (suc k)) here j
 
--- What holds of a node's chart if it holds of the charts before it, holds of every chart of the row.
+-- If a property holds of a node's chart whenever it holds of the charts before it, it holds of every chart of the row.
 every-chart :
     (P : Chart → Type 0) (nodes : List ℕ) (n : ℕ) → P empty
     → ((i : ℕ) → i < n → (before : List Chart) → ((j : ℕ) → P (getD before j empty))
@@ -69,7 +69,7 @@ every-chart P nodes (suc n) none step j =
     rw (charts-more (rowTo nodes n) (nodeAt nodes n))
     (one-more-has P before (stands before (nodeAt nodes n)) none all (step n (omega arith) before all) j)
 
--- A node in order stands for a declared chart, if its children do.
+-- A node that is in order stands for a chart with all lifelines and messages declared, if its children do.
 module _ (lifelines messages : ℕ) where
   declared-as :
       (k : Kind) (i : ℕ) (n : Node) (before : List Chart) → inOrderAs k lifelines messages i n ≡ true
@@ -94,7 +94,7 @@ module _ (lifelines messages : ℕ) where
       (λ i h before all. declared-as (kindOf (nodeAt nodes i .kind)) i (nodeAt nodes i) before (order i h) all)
       (length (rowOf nodes) - 1)
 
--- A node's own deeds, and a chart's: those of its node and its children.
+-- The deeds of a node alone, and of a chart: those of its root and of its children.
 module _ (d : ℕ) where
   abbrev own : Node → ℕ
   own n = cond (actsAs (kindOf (n .kind)) n d) 1 0
@@ -110,7 +110,7 @@ module _ (d : ℕ) where
   deeds-as (loops k) before n = omega arith
   deeds-as unknown before n = refl
 
-  -- Lifeline d acts in the row exactly if its nodes have deeds of it.
+  -- Lifeline d acts in the row exactly if some node of the row has a deed of d.
   acts-by-deeds : (row : List Node) → acts row d ≡ ltb 0 (total own row)
   acts-by-deeds [] = refl
   acts-by-deeds (n ∷ row) = by (actsAs (kindOf (n .kind)) n d) (acts-by-deeds row)
@@ -124,7 +124,7 @@ unfolding tally
 tally-same p q h zero = refl
 tally-same p q h (suc n) = rw (h n, tally-same p q h n)
 
--- The nodes of a card that are one tree.
+-- The nodes of a card, if they are one tree.
 module _ (nodes : List ℕ) (faultless : Faultless nodes)
     (once : (j : ℕ) → j < countOf nodes - 1 → uses (rowOf nodes) j ≡ 1) where
   abbrev row : List Node

@@ -1,4 +1,4 @@
--- A node has j as a child as often as the table counts it by the ranges of the kind number.
+-- A node has j as a child as often as the table counts, which goes by the ranges of the kind number.
 -- Assumes nothing.
 use Prim.Native.Nat.{ℕ, _<_, _≤_}
 use mathlib.Core.Path.{_≡_}

@@ -1,5 +1,5 @@
 -- The card that 01 prints is sound, and is the chart S of 01's table: left and right, emission and reception, lifeline
--- and message stand where 01 puts them. By computing it.
+-- and message stand where 01 puts them. Proved by computing.
 -- Assumes nothing.
 use Prim.Native.Nat.{ℕ}
 use mathlib.Core.List.{List, [], _∷_}

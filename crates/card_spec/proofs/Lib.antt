@@ -1,4 +1,4 @@
--- Laws of cards. proofs/Promises.antt is the reader's file.
+-- Laws of cards. A reader begins with proofs/Promises.antt.
 pub mod Trailers
 pub mod Rows
 pub mod Lowest

@@ -1,4 +1,5 @@
--- The lowest node with a fault, and how a loop finds it: it is fine so far, and goes on or has found it.
+-- The lowest node with a fault, and how a loop finds it: all nodes so far are fine, and the loop goes on or has found
+-- it.
 -- All by induction on how many nodes were looked at.
 -- Assumes nothing.
 use Prim.Native.Nat.{ℕ, zero, suc, _+_, _<_}
@@ -17,7 +18,7 @@ finding-none number place e = rw (eq-eqb number 0 e)
 pub finding-some : (number place : ℕ) → (number ≡ 0 → ⊥) → finding number place ≡ Refused number place
 finding-some number place h = rw (ne-eqb number 0 h)
 
--- No number, no refusal.
+-- A finding is fine only if its number is 0.
 finding-fine→ : (number place : ℕ) → finding number place ≡ Fine → number ≡ 0
 finding-fine→ number place h = by (ℕ-discrete number 0)
   where
@@ -25,17 +26,17 @@ finding-fine→ number place h = by (ℕ-discrete number 0)
     by (yes e) = e
     by (no d) = let never : Refused number place ≡ Fine = sym (finding-some number place d) ∙ h in cc
 
--- Both of two findings are fine.
+-- The first refusal of two findings is none only if both are fine.
 pub or-fine→ : (f g : Finding) → orElse f g ≡ Fine → (f ≡ Fine) × (g ≡ Fine)
 or-fine→ Fine g h = (refl, h)
 or-fine→ (Refused number place) g h = (h, cc)
 
 module _ (fault : ℕ → ℕ) where
-  -- Fine so far, and this one too.
+  -- All nodes so far are fine, and this one is too.
   pub fine-so-far : (i : ℕ) → lowest fault i ≡ Fine → fault i ≡ 0 → lowest fault (i + 1) ≡ Fine
   fine-so-far i h e = rw (add-one i, h, finding-none (fault i) i e)
 
-  -- Fine so far, and this one is not.
+  -- All nodes so far are fine, and this one is not.
   pub found-here :
       (i n : ℕ) → i < n → lowest fault i ≡ Fine → (fault i ≡ 0 → ⊥) → lowest fault n ≡ Refused (fault i) i
   found-here i zero l h e = absurd (omega arith)
@@ -47,13 +48,13 @@ module _ (fault : ℕ → ℕ) where
       last (yes same) before = rw (← same, h, finding-some (fault i) i e)
       last (no other) before = rw (before (omega arith))
 
-  -- No node has a fault: fine to the end,
+  -- If no node has a fault, nothing is found,
   pub none→fine : (n : ℕ) → ((i : ℕ) → i < n → fault i ≡ 0) → lowest fault n ≡ Fine
   none→fine zero none = refl
   none→fine (suc n) none =
       rw (none→fine n (λ i h. none i (omega arith)), finding-none (fault n) n (none n (omega arith)))
 
-  -- and fine to the end only then.
+  -- and nothing is found only then.
   pub fine→none : (n : ℕ) → lowest fault n ≡ Fine → (i : ℕ) → i < n → fault i ≡ 0
   fine→none zero h i l = absurd (omega arith)
   fine→none (suc n) h i l =

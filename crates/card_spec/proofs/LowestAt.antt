@@ -24,12 +24,12 @@ module _ (number : ℕ) (real : number ≢ 0) (ok : ℕ → Bool) (At : ℕ → 
   one-here : (i : ℕ) → ok i ≡ false → fault i ≡ number
   one-here i e = rw e
 
-  -- No node has it.
+  -- If no node meets its condition, nothing is found.
   pub no-fault→fine : (n : ℕ) → ((i : ℕ) → i < n → Decided (ok i) (At i)) → ((i : ℕ) → i < n → ¬ At i)
       → lowest fault n ≡ Fine
   no-fault→fine n d none = none→fine fault n (λ i h. none-here i (if-not (d i h) (none i h)))
 
-  -- The lowest node that has it.
+  -- The lowest node that meets its condition is found.
   pub lowest→refused :
       (n p : ℕ) → ((i : ℕ) → i < n → Decided (ok i) (At i)) → Lowest At n p → lowest fault n ≡ Refused number p
   lowest→refused n p d l =
@@ -38,7 +38,7 @@ module _ (number : ℕ) (real : number ≢ 0) (ok : ℕ → Bool) (At : ℕ → 
       let here : fault p ≡ number = one-here p (if-so (d p (l .inside)) (l .here)) in
       rw here at (found-here fault p n (l .inside) before (λ z. real (rw here at z)))
 
-  -- One of the two.
+  -- One of the two holds.
   pub data Looked (n : ℕ) : Type 0 where
     nowhere : lowest fault n ≡ Fine → ((i : ℕ) → i < n → ¬ At i) → Looked n
     somewhere : (p : ℕ) → lowest fault n ≡ Refused number p → Lowest At n p → Looked n

@@ -1,5 +1,5 @@
--- The test of one node decides the table's condition for it. By the ranges of the kind number: in each, the test
--- looks at the two fields a and b, and the condition comes down to those.
+-- The test of one node decides the table's condition for it. The proof goes by the ranges of the kind number: in each
+-- of them the test looks at the two fields a and b, and the condition comes down to those.
 -- Assumes nothing.
 use Prim.Native.Nat.{ℕ, _<_, _≤_}
 use mathlib.Core.Bool.{Bool, true≢false}

@@ -1,7 +1,7 @@
 -- What is promised of cards, for whoever reads nothing else: each sentence of 01 on cards, as a theorem that only cites
--- others. `check` answers `checking` of the bytes; `note` hands back the part that begins where the card begins and is
--- `noteOf` of the bytes: that is their contract (card_check/src/lib.rt). What is said here of the two definitions is
--- therefore said of the code.
+-- others. `check` returns `checking` of the bytes; `note` returns the part that begins where the card begins and is
+-- `noteOf` of the bytes: that is their contract (card_check/src/lib.rt). What holds here of the two definitions
+-- therefore holds of the code.
 -- Assumes nothing.
 use Prim.Native.Nat.{ℕ, _-_, _≤_}
 use mathlib.Core.List.{List, []}
@@ -57,8 +57,8 @@ module _ (card : List ℕ) where
   pub every-card-gets-a-number : checking card .number ≤ 6
   every-card-gets-a-number = told-at-most-six card (answer→told card)
 
-  -- and no second answer, nor a second note (its bytes, or the place in memory where it begins) or length of it, meets
-  -- the contract.
+  -- and no second answer meets the contract, nor a second note (its bytes, or the place in memory where it begins), nor
+  -- a second length of the note.
   pub no-second-answer : {r s : Checked} → r ≡ checking card → s ≡ checking card → r ≡ s
   no-second-answer e f = e ∙ sym f
 

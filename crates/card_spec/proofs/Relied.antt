@@ -1,6 +1,6 @@
--- What may be relied on once the rules of the whole card and of its nodes hold: `Faultless`. A back distance in rule
--- is the length of the nodes' bytes. A node in order has its children below itself and its lifeline below the
--- declared number.
+-- What can be relied on once the rules of the whole card and of its nodes hold: `Faultless`. A back distance in rule is
+-- the length of the nodes' bytes. A node in order has its children below itself and its lifeline below the declared
+-- number.
 -- Assumes nothing.
 use Prim.Native.Nat.{ℕ, _-_, _%_, _≤_, _<_}
 use mathlib.Core.Bool.{Bool, true, false, cond, _&&_}
@@ -29,7 +29,7 @@ within→ low x high h =
     let (l, u) = both-true (leb low x) (leb x high) h in
     (leb-true low x l, leb-true x high u)
 
--- The back distance in rule.
+-- The back distance is in rule.
 pub record InRule (card : List ℕ) : Type 0 where
   pub whole : backOf card % 4 ≡ 0
   pub some : 4 ≤ backOf card
@@ -123,7 +123,7 @@ few-nodes card h =
     let rule = back→ card h in
     omega (arith, length-nodes card rule, rule .few)
 
--- What was found of the parts of a card was found of the card.
+-- What is found in the parts that were read from a card is what is found in the card.
 pub found-of-the-card :
     (card nodes : List ℕ) (lifelines messages : ℕ) {found : Finding}
     → lifelines ≡ lifelinesOf card → messages ≡ messagesOf card → nodes ≡ nodesOf card

@@ -1,4 +1,4 @@
--- The row of a card's first nodes is as long as it says.
+-- The row of a card's first n nodes has length n.
 -- Assumes nothing.
 use Prim.Native.Nat.{ℕ, zero, suc}
 use mathlib.Core.List.{List, [], _∷_}

@@ -1,6 +1,6 @@
 -- The answer to a card is what 01's table tells: each number and place under its exact condition, and no other. The
--- answer is looked up rule by rule, both ways: from the condition that holds to the answer, and from the answer to
--- the condition.
+-- proof goes rule by rule, both ways: from the condition that holds to the answer, and from the answer to the
+-- condition.
 -- Assumes nothing.
 use Prim.Native.Nat.{ℕ, _-_, _<_, _≤_}
 use mathlib.Core.Bool.{Bool, true, false}
@@ -44,14 +44,14 @@ module _ (card : List ℕ) where
   abbrev nodes : List ℕ
   nodes = nodesOf card
 
-  -- Node j is a child once.
+  -- Whether node j is a child exactly once.
   abbrev once : ℕ → Bool
   once j = eqb (uses (cardRow card) j) 1
 
   long-of : ¬ NoCard card → 6 ≤ length card
   long-of = at-least-six card
 
-  -- What the first three conditions leave to rely on.
+  -- What can be relied on if none of the first three conditions holds.
   module _ (t : Trailed card) where
     long : 6 ≤ length card
     long = long-of (t .framed)
@@ -198,7 +198,7 @@ module _ (card : List ℕ) where
   pub answer→told : Told card (checking card .number) (checking card .place)
   answer→told = by-one (framed card) refl
 
-  -- Of a sound card every node is in order, and every node but the root is a child once.
+  -- In a sound card every node is in order, and every node but the root is a child once.
   pub sound→orderly :
       (s : Sound card) (i : ℕ) → i < countOf nodes
       → inOrderAs (kindOf (nodeAt nodes i .kind)) (lifelinesOf card) (messagesOf card) i (nodeAt nodes i) ≡ true

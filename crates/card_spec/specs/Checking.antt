@@ -12,7 +12,7 @@ use Rattle.card_spec.specs.Nodes.{countOf}
 use Rattle.card_spec.specs.Figures.{depthOf, actingOf}
 use Rattle.card_spec.specs.Findings.{framed, backInRule, countsInRange, faulty, misused, orElse}
 
--- A rule of the whole card: refused with its number at place 0 unless it holds.
+-- A rule of the whole card: unless it holds, it refuses the card with its number, at place 0.
 abbrev pub rule : ℕ → Bool → Finding
 rule number holds = cond holds Fine (Refused number 0)
 
@@ -42,7 +42,7 @@ abbrev pub soundness : List ℕ → Checked
 soundness nodes =
     record { number = 0; place = 0; nodes = countOf nodes; depth = depthOf nodes; lifelines = actingOf nodes }
 
--- What is answered, by what was found.
+-- The answer to a card, given what was found.
 abbrev pub answered : Finding → Checked → Checked
 answered Fine sound = sound
 answered (Refused n p) sound = refusal n p

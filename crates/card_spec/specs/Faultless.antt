@@ -1,5 +1,5 @@
--- A working definition, which nobody has to believe: what the first four rules leave to rely on for the code that
--- counts children, depth and lifelines.
+-- A working definition, which nobody has to believe: what the code that counts children, depth and lifelines can rely
+-- on after the first four rules.
 -- Assumes nothing.
 use Prim.Native.Nat.{ℕ, _≤_, _<_}
 use mathlib.Core.List.{List}

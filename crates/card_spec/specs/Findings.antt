@@ -15,7 +15,7 @@ use Rattle.card_spec.specs.declared.Finding.the-variants.{Fine, Refused}
 use Rattle.card_spec.specs.Parts.{trailerByte, trailerAt, backOf, lifelinesOf, messagesOf}
 use Rattle.card_spec.specs.Nodes.{countOf, nodeAt, spareAt, rowOf}
 
--- From low to high.
+-- Whether x is from low to high.
 abbrev pub within : ℕ → ℕ → ℕ → Bool
 within low x high = leb low x && leb x high
 
@@ -40,7 +40,7 @@ inOrderAs (pairs p) lifelines messages i n = ltb (n .a) i && ltb (n .b) i
 inOrderAs (loops k) lifelines messages i n = eqb (n .b) 0 && ltb (n .a) i
 inOrderAs unknown lifelines messages i n = false
 
--- Node i is in order: its byte c is zero, and so is what its kind asks.
+-- Node i is in order: its byte c is zero, and its other bytes are as its kind asks.
 abbrev pub inOrder : ℕ → ℕ → ℕ → Node → ℕ → Bool
 inOrder lifelines messages i n c = eqb c 0 && inOrderAs (kindOf (n .kind)) lifelines messages i n
 
@@ -52,7 +52,7 @@ faultOf lifelines messages nodes i = cond (inOrder lifelines messages i (nodeAt 
 abbrev pub misuseOf : List Node → ℕ → ℕ
 misuseOf row j = cond (eqb (uses row j) 1) 0 5
 
--- A number at a place, which refuses unless it is 0.
+-- The finding for a number at a place: it refuses unless the number is 0.
 abbrev pub finding : ℕ → ℕ → Finding
 finding number place = cond (eqb number 0) Fine (Refused number place)
 
@@ -61,7 +61,7 @@ abbrev pub orElse : Finding → Finding → Finding
 orElse Fine g = g
 orElse (Refused number place) g = Refused number place
 
--- The lowest of the first n nodes that has a fault, with its number.
+-- The lowest of the first n nodes that has a fault, with the number of the fault.
 abbrev pub lowest : (ℕ → ℕ) → ℕ → Finding
 lowest fault zero = Fine
 lowest fault (suc n) = orElse (lowest fault n) (finding (fault n) n)

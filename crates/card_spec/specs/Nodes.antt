@@ -1,4 +1,4 @@
--- Nodes, out of their bytes.
+-- Nodes, read out of their bytes.
 -- Assumes nothing.
 use Prim.Native.Nat.{ℕ, zero, suc, _+_, _*_, _/_}
 use mathlib.Core.List.{List, [], _∷_, _++_}
@@ -17,7 +17,7 @@ abbrev pub nodeAt : List ℕ → ℕ → Node
 nodeAt nodes i =
     record { kind = getD nodes (i * 4) 0; a = getD nodes (i * 4 + 1) 0; b = getD nodes (i * 4 + 2) 0 }
 
--- Its fourth byte, c, which is never used (01, The chart card).
+-- The fourth byte of node i, c, which is never used (01, The chart card).
 abbrev pub spareAt : List ℕ → ℕ → ℕ
 spareAt nodes i = getD nodes (i * 4 + 3) 0
 

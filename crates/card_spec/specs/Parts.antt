@@ -1,5 +1,5 @@
--- The parts of a card: a note, the nodes, and a trailer of six bytes that points back to the first node. For bytes
--- that are no card these are still defined; `Findings` says what makes a card of them.
+-- The parts of a card: a note, the nodes, and a trailer of six bytes that points back to the first node. They are
+-- defined also for bytes that are no card; `Findings` says what makes bytes a card.
 -- Assumes nothing.
 use Prim.Native.Nat.{ℕ, _+_, _-_, _*_}
 use mathlib.Core.Bool.{cond}

@@ -1,5 +1,5 @@
-// What a card is answered with: the types of it. What the bytes of a card mean is said in specs/, and what is
-// promised of it in proofs/Promises.antt; the code is in the other crates `card_..`.
+// The types of the answer to a card. specs/ says what the bytes of a card mean, and proofs/Promises.antt what is
+// promised of cards; the code is in the other crates `card_..`.
 
 // The answer to a card: number 0, place 0 and the figures of a sound one; or the number and place of a refusal, and
 // no figures.

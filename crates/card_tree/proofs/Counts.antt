@@ -1,4 +1,4 @@
--- Counting children in a row of counts: what stands at each place afterwards, and that it stays small.
+-- Counting children in a list of counts: what each count is afterwards, and that it stays small.
 -- Assumes nothing.
 use Prim.Native.Nat.{ℕ, _+_, _*_, _<_, _≤_}
 use mathlib.Core.Bool.{Bool, true, false, cond}
@@ -21,7 +21,7 @@ use Rattle.card_spec.specs.Nodes.{nodeAt, rowTo}
 use Rattle.card_spec.specs.Findings.{misuseOf}
 use Rattle.card_tree.specs.Counting.{oneMore, oneMoreEach}
 
--- One more at k alone.
+-- The count of k grows by one, and no other count grows.
 pub one-more-at :
     (counts : List ℕ) (k j : ℕ) → k < length counts → getD (oneMore counts k) j 0 ≡ getD counts j 0 + cond (eqb k j) 1 0
 one-more-at counts k j h = by (ℕ-discrete k j)
@@ -34,7 +34,7 @@ one-or-none : (b : Bool) → cond b 1 0 ≤ 1
 one-or-none true = omega arith
 one-or-none false = omega arith
 
--- No place grows by more than one.
+-- No count grows by more than one.
 pub one-more-grows-by-one : (counts : List ℕ) (k j : ℕ) → getD (oneMore counts k) j 0 ≤ getD counts j 0 + 1
 one-more-grows-by-one counts k j = by (decLt k (length counts))
   where
@@ -42,7 +42,7 @@ one-more-grows-by-one counts k j = by (decLt k (length counts))
     by (yes h) = omega (arith, one-more-at counts k j h, one-or-none (eqb k j))
     by (no h) = rw (set-out counts k (getD counts k 0 + 1) (omega arith)) (omega arith)
 
--- Each place grows by how often it is in the list.
+-- Each count grows by how often its number is in the list.
 pub one-more-each-at :
     (counts ks : List ℕ) (j : ℕ) → Below (length counts) ks
     → getD (oneMoreEach counts ks) j 0 ≡ getD counts j 0 + times j ks
@@ -62,7 +62,7 @@ two-children (pairs p) n = omega arith
 two-children (loops k) n = omega arith
 two-children unknown n = omega arith
 
--- A node is a child at most twice for each node.
+-- Each node has j as a child at most twice.
 pub uses-few : (row : List Node) (j : ℕ) → uses row j ≤ 2 * length row
 uses-few [] j = omega arith
 uses-few (n ∷ row) j =
@@ -101,7 +101,7 @@ one-more-counted nodes i counts next n en enext low (long, at) =
           (omega (arith, one-more-each-at counts (children n) j room, at j h, uses-append (rowTo nodes i) (n ∷ []) j)),
     )
 
--- Node j is misused, or not, by what was counted.
+-- The count of node j tells whether it is misused.
 pub misused-as-counted : (row : List Node) (j count : ℕ) → count ≡ uses row j → (count ≡ 1 → ⊥) → misuseOf row j ≡ 5
 misused-as-counted row j count e h = rw (ne-eqb (uses row j) 1 (λ one. h (e ∙ one)))
 

@@ -1,10 +1,10 @@
--- Working definitions, which nobody has to believe: counts in a row, one for each number.
+-- Working definitions, which nobody has to believe: a list of counts, one for each number.
 -- Assumes nothing.
 use Prim.Native.Nat.{ℕ, _+_}
 use mathlib.Core.List.{List, [], _∷_}
 use lib.ListN.{getD, set}
 
--- One more at place k; and so for each k of a list.
+-- The count of k grows by one; and so for each k of a list.
 abbrev pub oneMore : List ℕ → ℕ → List ℕ
 oneMore counts k = set counts k (getD counts k 0 + 1)
 

@@ -1,8 +1,8 @@
--- The published sets are those that proofs work with: for every chart and log, Published and Member agree.
+-- The published sets are those that the proofs work with: for every chart and log, Published and Member agree.
 --
--- Operator by operator, a deal is what document 000's equations give. A power of a set is that many rounds, so the
--- closure is `Star`; and the restricted operator asks of a log that is not empty just what a round of the head loop
--- is. The rest is induction on the chart. Last, what evading and pruning mean, of the published sets.
+-- For each operator, a deal is what document 000's equations give. A power of a set is that many rounds, so the closure
+-- is `Star`; and the restricted operator asks of a log that is not empty just what a round of the head loop asks. The
+-- rest is induction on the chart. At the end stands what evading and pruning mean for the published sets.
 -- Assumes nothing.
 use Prim.Native.Nat.{ℕ, zero, suc}
 use mathlib.Core.List.{[], _∷_, _++_, head-eq-of-cons-eq, tail-eq-of-cons-eq}
@@ -160,14 +160,14 @@ published-iff-member (pair o l r) t =
 published-iff-member (loop (each o) b) t = kleene-agrees o (Published b) (Member b) (published-iff-member b) t
 published-iff-member (loop head b) t = head-agrees (Published b) (Member b) (published-iff-member b) t
 
--- ---- every chart has a log, of the published sets
+-- ---- every chart has a published log
 
 pub every-chart-has-a-published-log : (c : Chart) → (t : Log) × Published c t
 every-chart-has-a-published-log c =
     let (t, m) = every-chart-has-a-log c in
     (t, published-iff-member c t .1 m)
 
--- ---- evading and pruning, of the published sets
+-- ---- evading and pruning, for the published sets
 
 -- (000, Lemma 5)
 pub evades-iff-some-published-log-avoids : (c : Chart) (d : ℕ) → T (evades c d)

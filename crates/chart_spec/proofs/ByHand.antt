@@ -1,5 +1,5 @@
--- The thirteen rows of 01's table are answered as it says: antt computes both sides of the whole table. Beside it,
--- the sentence under the table that tells 9 from 10.
+-- Each of the thirteen rows of 01's table gets the answer that the table says: antt computes both sides of the whole
+-- table. After it comes the sentence under the table that tells 9 from 10.
 -- Assumes nothing.
 use mathlib.Core.List.{[], _∷_, map}
 use mathlib.Core.Path.{_≡_, refl}
@@ -7,7 +7,7 @@ use Rattle.chart_spec.specs.Executing.{prune, follows}
 use Rattle.chart_spec.specs.Lending.{Answer, attempts, walk, answer}
 use Rattle.chart_spec.specs.ByHand.{emits, receives, S, Row, rows}
 
--- What a row's chart and log are answered under its lending.
+-- The answer to a row's chart and log under its lending.
 abbrev pub answered : Row → Answer
 answered r = answer (r .chart) (r .log) (r .allowance) (r .room)
 

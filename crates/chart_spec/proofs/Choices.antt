@@ -1,5 +1,6 @@
--- One of several charts: some entry of a list has a property, through appending, mapping and a test; and the set of
--- logs that belong to one of several sets, through composition. Nothing here knows what a follow-up is.
+-- One of several charts. First, some entry of a list has a property, for lists that are appended, mapped or taken only
+-- if a test passes; then, the logs that belong to one of several sets, when these sets are composed. Nothing here
+-- depends on what a follow-up is.
 -- Assumes nothing.
 use mathlib.Core.Bool.{Bool, true, false, cond}
 use mathlib.Core.List.{List, [], _∷_, _++_, map}

@@ -1,10 +1,10 @@
--- Deals: with an empty part, one after the other, which actions they hold, and how they regroup.
+-- Deals: with an empty part, with one part after the other, which actions they hold, and how they regroup.
 --
--- A deal takes each action of the log to one of its parts, so a property of every action holds of the log exactly if
--- it holds of both parts. Weak deals regroup both ways: an action may overtake a part that is itself a deal exactly
--- if it may overtake both of its parts. In a parallel deal nothing is held back, so the first of the rest may be
--- taken out before the left part. Each law goes by induction on a deal; where there are two, the action at the front
--- says which part of the second it went to.
+-- A deal gives each action of the log to one of its parts, so a property of every action holds of the log exactly if it
+-- holds of both parts. Weak deals regroup both ways: an action may overtake a part that is itself a deal exactly if it
+-- may overtake both of its parts. In a parallel deal nothing is held back, so the first part of the rest may also be
+-- taken before the left part. Each law is by induction on a deal; where there are two deals, each case also says to
+-- which part of the second deal the first action went.
 -- Assumes nothing.
 use mathlib.Core.List.{[], _∷_, _++_}
 use mathlib.Core.Path.{_≡_, refl, ap}
@@ -13,7 +13,7 @@ use Rattle.chart_spec.specs.Chart.{Order, strict, seq, par}
 use Rattle.chart_spec.specs.Traces.{only}
 use Rattle.chart_spec.specs.Member.{May, Deal, done, left, right}
 
--- nothing of the left is to come, so that any action of the right may be taken
+-- if nothing of the left is to come, any action of the right may be taken
 pub may-at-end : (o : Order) (a : Action) → May o [] a
 may-at-end strict a = only
 may-at-end seq a = tt
@@ -31,18 +31,18 @@ pub deal-left-is-empty : {o : Order} {u t : Log} → Deal o [] u t → u ≡ t
 deal-left-is-empty done = refl
 deal-left-is-empty (right {a = a} m d) = ap (λ (r : Log). a ∷ r) (deal-left-is-empty d)
 
--- the left part and then the right part is a deal in every order
+-- the left part and then the right part is a deal, in every order
 pub deal-appended : (o : Order) (s u : Log) → Deal o s u (s ++ u)
 deal-appended o [] u = deal-all-right o u
 deal-appended o (a ∷ s) u = left (deal-appended o s u)
 
--- a strict deal is no other
+-- and a strict deal is always that
 pub deal-strict-is-appended : {s u t : Log} → Deal strict s u t → s ++ u ≡ t
 deal-strict-is-appended done = refl
 deal-strict-is-appended (left {a = a} d) = ap (λ (r : Log). a ∷ r) (deal-strict-is-appended d)
 deal-strict-is-appended (right {a = a} only d) = ap (λ (r : Log). a ∷ r) (deal-strict-is-appended d)
 
--- what holds of every action of the log, holds of every action of both parts, and back
+-- what holds of every action of the log holds of every action of both parts, and the other way round
 pub deal-every→ : {o : Order} (P : Action → Type 0) {s u t : Log} → Deal o s u t → Every P t → Every P s × Every P u
 deal-every→ P done h = (tt, tt)
 deal-every→ P (left d) h = let (hs, hu) = deal-every→ P d (h .1) in ((h .0, hs), hu)

@@ -5,7 +5,7 @@
 -- `Published c` is the chart's trace set as document 000 composes it (specs/Published.antt).
 -- `Begins`, `Longer` and `Longest` speak of openings (specs/Openings.antt).
 -- `Reaches`, `Wants` and `Exceeds` speak of a lending (specs/Reaching.antt).
--- That cards and logs given as bytes get these answers is shown by the crates above this one.
+-- The crates that build on this one show that cards and logs given as bytes get these answers.
 -- Assumes nothing.
 use Prim.Native.Nat.{ℕ, _<_, _≤_}
 use mathlib.Core.List.{_++_}
@@ -117,7 +117,7 @@ module _ (c : Chart) (t : Log) (allowance room : ℕ) where
   -- ---- Demand 3: steps and places
 
   -- "For each sound chart and log the written search rules fix a number of steps and a number of places." They are
-  -- `stepsOf c t` and `placesOf c t`: no lending stands in them.
+  -- `stepsOf c t` and `placesOf c t`, which do not depend on the lending.
   -- "A verdict comes exactly when the allowance and the usable room reach these two,
   pub verdict-exactly-when-reached : Verdict (given .number) ↔ Reaches c t allowance room
   verdict-exactly-when-reached = verdict-iff-reaches c t allowance room

@@ -1,5 +1,5 @@
--- A property of every member of a list: of a list changed alike, of two lists, of a list under a test, at a place.
--- All by induction on the list.
+-- A property of every member of a list: when each member is mapped, for two lists appended, for a list taken only if a
+-- test passes, and at an index. All by induction on the list.
 -- Assumes nothing.
 use Prim.Native.Nat.{ℕ, zero, suc, _<_}
 use native.Mathlib.Omega.{arith}

@@ -1,8 +1,8 @@
--- Terminating is having the empty log, and evading d is having a log in which d never acts.
+-- A chart terminates exactly if it has the empty log, and evades d exactly if it has a log in which d never acts.
 --
--- From a test to a log: a pair takes a log of each side and deals them one after the other, a loop takes no round.
--- From a log to the test: the parts of a deal of nothing are nothing, and the parts of a deal without d are without
--- d. Every chart has a log, by the same construction.
+-- From the test to a log: a pair takes a log of each side and deals them one after the other, and a loop takes no
+-- round. From a log to the test: the parts of an empty deal are empty, and the parts of a deal without d are without d.
+-- Every chart has a log, by the same construction.
 -- Assumes nothing.
 use Prim.Native.Nat.{ℕ}
 use mathlib.Core.Bool.{not}
@@ -51,7 +51,7 @@ terminates-iff-the-empty-log-belongs c = (terminates→ c, terminates← c)
 
 -- ---- evading
 
--- the test on a lifeline, as the fact
+-- the test that an action is on another lifeline, as a fact
 pub on-another→ : (l d : ℕ) → T (not (eqb l d)) → l ≢ d
 on-another→ l d h e = T-not (eqb l d) h (subst (λ (n : ℕ). T (eqb l n)) e (eqb-refl l))
 

@@ -81,7 +81,7 @@ abbrev pub Refuses : (ℕ → Type 0) → Outcome → Type 0
 Refuses P (accepted run) = Unit
 Refuses P (refused deepest run) = P deepest
 
--- how far the choices got with t after one action: not begun, or some choice got through n actions of it
+-- how far the choices got: no choice was begun, or some choice got through n actions of t after the first action
 data Reached (xs : List Made) (t : Log) : ℕ → Type 0 where
   nowhere : Reached xs t zero
   through : {n : ℕ} → Some (λ x. Begins (Member (chartOf x)) (take n t)) xs → Reached xs t (suc n)
@@ -127,7 +127,7 @@ tries-deepest go used (x ∷ xs) t f =
     step-deepest (used + costOf x) x xs t (go (chartOf x) (used + costOf x)) (tries go used xs) (f x)
     (tries-deepest go used xs t f)
 
--- The chart's log that begins with a and an opening of t.
+-- Some log of the chart begins with a and s exactly if some log of a follow-up by a begins with s.
 begins→ : (c : Chart) (a : Action) (s : Log) → Begins (Member c) (a ∷ s)
     → Some (λ x. Begins (Member (chartOf x)) s) (follows c a)
 begins→ c a s (u, m) = some-implies (λ x w. (u, w)) (follows-iff c a (s ++ u) .0 m)

@@ -1,7 +1,7 @@
--- Once a log deviates, going on with it changes nothing: the search never comes to the part that was added.
+-- Once a log deviates, a longer log changes nothing: the search never comes to the part that was added.
 --
--- By induction on the log. If the deepest opening of all choices is short of the log's end, then so is that of each
--- choice, and nobody looks at what stands beyond.
+-- By induction on the log. If the deepest opening over all choices ends before the log does, then so does that of each
+-- choice, and the search looks at nothing beyond it.
 -- Assumes nothing.
 use Prim.Native.Nat.{ℕ, suc, _+_, _≤_, _<_, max, suc-le-suc}
 use native.Mathlib.Nat.{not-suc-le-zero, le-of-suc-le-suc, le-trans, le-max-left, le-max-right, le-add-right}
@@ -56,7 +56,7 @@ explore-extends (a ∷ t) u c used h =
 
 -- ---- the answer
 
--- a verdict on a log that deviates does not look at how long the log is
+-- the number for a log that deviates does not depend on how long the log is
 unaccepted-extends : (d long more : ℕ) → d < long → long ≤ more → unaccepted (ltb d more) ≡ unaccepted (ltb d long)
 unaccepted-extends d long more h g =
     ap unaccepted (passes (ltb d more) (lt→ltb d more (le-trans h g)) ∙ sym (passes (ltb d long) (lt→ltb d long h)))
@@ -67,7 +67,7 @@ told-extends d long more h g s p =
     ap (λ (n : ℕ). record { number = n; place = d; steps = s; places = p }) (unaccepted-extends d long more h g)
 
 module _ (allowance room long more : ℕ) where
-  -- an ending that is told alike of both lengths
+  -- an ending that gives the same answer for both lengths
   abbrev ToldAlike : Ending → Type 0
   ToldAlike w = told more w ≡ told long w
 
@@ -88,7 +88,7 @@ module _ (allowance room long more : ℕ) where
   spent-extends (refused d run) h g = spend-extends run (failed d) (told-extends d long more h g)
   spent-extends (accepted run) h g = absurd h
 
--- A log that deviates and every longer log that begins with it get one answer, from every lending.
+-- A log that deviates and every longer log that begins with it get the same answer, from every lending.
 pub answer-extends : (c : Chart) (t u : Log) (allowance room : ℕ) → Deviates (length t) (searched c t)
     → answer c (t ++ u) allowance room ≡ answer c t allowance room
 answer-extends c t u allowance room h =

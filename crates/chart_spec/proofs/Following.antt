@@ -92,7 +92,7 @@ same-refl a =
 
 -- ---- on the right of a pair
 
--- what an action on the right asks of the left part, and what it leaves
+-- what an action on the right asks of the left part, and what it leaves of it
 on-right→ : (o : Order) (l : Chart) (a : Action) (xs : List Made) {t : Log}
     → Joined (Deal o) (λ s. Member l s × May o s a) (OneOf xs) t → OneOf (onRight o l (a .line) xs) t
 on-right→ strict l a xs (joined s u (m, only) w x) =
@@ -148,7 +148,7 @@ pair-follows o l r a xs ys f g t =
 
 -- ---- a loop
 
--- the rest of a round and the loop, as one of the charts that the round's follow-ups give
+-- the rest of a round and the loop, as a log of one of the charts that the round's follow-ups give
 begun→ : (k : Loop) (b : Chart) (a : Action) (xs : List Made) → Follow b a xs → (t : Log) → Begun k (Member b) a t
     → Union (λ y. Member (chartOf (begun k b y))) xs t
 begun→ k b a xs f t j = union-left→ (λ y. Member (chartOf y)) (joined-implies (λ s. f s .0) (λ u n. n) j)
@@ -157,7 +157,7 @@ begun← : (k : Loop) (b : Chart) (a : Action) (xs : List Made) → Follow b a x
     → Union (λ y. Member (chartOf (begun k b y))) xs t → Begun k (Member b) a t
 begun← k b a xs f t w = joined-implies (λ s. f s .1) (λ u n. n) (union-left← (λ y. Member (chartOf y)) w)
 
--- a loop in which the round that a log begins can be taken as the first
+-- a loop in which the round that takes the log's first action can be taken as the first round
 first-follows : (k : Loop) (b : Chart) (a : Action) (xs : List Made)
     → ((t : Log) → Star k (Member b) (a ∷ t) → Begun k (Member b) a t) → Follow b a xs
     → Follow (loop k b) a (map (begun k b) xs)
@@ -166,7 +166,7 @@ first-follows k b a xs first f t = (
   λ w. begins k (Member b) (begun← k b a xs f t (some-map→ (begun k b) xs w)),
 )
 
--- the weak loop, with what is left of the loop in front
+-- the weak loop, with the pruned loop in front
 weak-follows : (b : Chart) (a : Action) (xs : List Made) → Follow b a xs
     → Follow (loop (each seq) b) a (map (afterRound (each seq) b (a .line)) xs)
 weak-follows b a xs f t =

@@ -72,7 +72,7 @@ levels-grow =
 pub pruning-adds-no-level : (c : Chart) (d : ℕ) → levels (chartOf (prune c d)) ≤ levels c
 pruning-adds-no-level = pruned-no-greater levels levels-grow
 
--- At most n levels, and each of the follow-ups so.
+-- At most n levels; and so for each of the follow-ups.
 abbrev AtMost : ℕ → Made → Type 0
 AtMost n x = made x ≤ n
 
@@ -82,7 +82,7 @@ Within n xs = Every (AtMost n) xs
 within-more : (m n : ℕ) → m ≤ n → (xs : List Made) → Within m xs → Within n xs
 within-more m n more xs h = every-implies (AtMost m) (AtMost n) (λ x hx. omega arith) xs h
 
--- On the right of a pair.
+-- The follow-ups on the right of a pair.
 on-right-within :
     (o : Order) (l : Chart) (d n : ℕ) (xs : List Made) → levels l ≤ n → Within n xs → Within (1 + n) (onRight o l d xs)
 on-right-within strict l d n xs h hs =
@@ -94,7 +94,7 @@ on-right-within seq l d n xs h hs =
 on-right-within par l d n xs h hs =
     every-map (AtMost n) (AtMost (1 + n)) (newPair par (kept l)) (λ x hx. omega arith) xs hs
 
--- A round more.
+-- The follow-ups of a loop.
 after-round-within :
     (k : Loop) (b : Chart) (d : ℕ) (x : Made) → made x ≤ 2 + levels b
     → made (afterRound k b d x) ≤ 2 + levels (loop k b)
@@ -129,7 +129,7 @@ two-levels-deeper (loop k b) a =
     (after-round-within k b (a .line))
     (follows b a) (two-levels-deeper b a)
 
--- A chart that is left when a log has been executed on a chart, by some occurrence of each action.
+-- x is a chart that is left of c when the log has been executed on c, by some occurrence of each action.
 abbrev pub LeftBy : Chart → Log → Chart → Type 0
 LeftBy c [] x = x ≡ c
 LeftBy c (a ∷ t) x =

@@ -1,8 +1,8 @@
--- What the three verdicts tell, of any set of logs that the search decides.
+-- What the three verdicts say, for any set of logs that the search decides.
 --
--- The search decides a set if it accepts exactly its logs and otherwise stops at the longest opening. Then a refused
--- log that was used up begins a longer log of the set, and one that was not begins none. Last, the search decides the
--- published set of a chart.
+-- The search decides a set if it accepts exactly its logs and otherwise stops at the longest opening. Then a log that
+-- was used up, but refused, begins a longer log of the set, and one that was not used up begins none. At the end: the
+-- search decides the published set of a chart.
 -- Assumes nothing.
 use Prim.Native.Nat.{ℕ, _≤_, _<_}
 use native.Mathlib.Nat.{le-refl, le-antisymm, not-le-of-lt, lt-of-not-le}
@@ -130,7 +130,7 @@ module _ (M : Traces) (t : Log) where
 
 -- ---- a log that begins none
 
--- Nothing begins with a log exactly if neither it nor a longer one belongs.
+-- No log of the set begins with t exactly if neither t nor a longer log that begins with t belongs to it.
 pub begins-none-iff : (M : Traces) (t : Log) → (¬ Begins M t) ↔ ((¬ M t) × (¬ Longer M t))
 begins-none-iff M t = (
   λ none. (λ m. none ([], subst M (sym (append-nil t)) m), λ (a, u, m). none (a ∷ u, m)),

@@ -1,5 +1,5 @@
--- What takes no place was there before: each node of what the rules make takes a place or is of a part that is kept
--- as it stands, and each part that is kept is a part of the chart. Pruning keeps nothing but actions and empties.
+-- What takes no place was there before: each node of what the rules make takes a place or belongs to a part that is
+-- kept as it stands, and each part that is kept is a part of the chart. Pruning keeps nothing but actions and empties.
 --
 -- The first goes by induction on what was made, the rest by induction on the chart: a part of a side, or of a body,
 -- is a part of the whole.
@@ -68,7 +68,7 @@ nodesKept (newAlt m n) = nodesKept m + nodesKept n
 nodesKept (newPair o m n) = nodesKept m + nodesKept n
 nodesKept (newLoop k m) = nodesKept m
 
--- Each node of what was made takes a place, or is of a part that is kept.
+-- Each node of what was made takes a place, or belongs to a part that is kept.
 pub each-node-is-paid-or-kept : (m : Made) → costOf m + nodesKept m ≡ size (chartOf m)
 each-node-is-paid-or-kept (kept c) = omega arith
 each-node-is-paid-or-kept newEmpty = refl
@@ -101,7 +101,7 @@ prune-keeps-leaves (alt l r) d =
 prune-keeps-leaves (pair o l r) d = (prune-keeps-leaves l d, prune-keeps-leaves r d)
 prune-keeps-leaves (loop k b) d = pruned-loop (λ p. size p ≡ 1) k (prune b d) (evades b d) (prune-keeps-leaves b d)
 
--- They were there.
+-- What pruning keeps are parts of the chart.
 pub prune-keeps-parts : (c : Chart) (d : ℕ) → EachKept (Part c) (prune c d)
 unfolding prune
 prune-keeps-parts empty d = itself
@@ -120,7 +120,7 @@ prune-keeps-parts (loop k b) d =
 
 -- ---- executing
 
--- What was made keeps parts of the chart c.
+-- What was made keeps only parts of the chart c.
 abbrev pub KeepsPartsOf : Chart → Made → Type 0
 KeepsPartsOf c x = EachKept (Part c) x
 

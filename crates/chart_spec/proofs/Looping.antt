@@ -1,10 +1,10 @@
--- The first action of a loop's log, and the round that it comes from.
+-- The first action of a loop's log, and the round that takes it.
 --
--- The strict, head and parallel loop: the round can be taken as the first. In a strict loop the rounds before it are
--- empty; in a head loop it is the first; in a parallel loop it may change places with the rounds before it. So the
--- log goes on with the rest of the round and the loop, in the loop's order.
+-- The strict, head and parallel loop: that round can be taken as the first. In a strict loop the rounds before it are
+-- empty; in a head loop it is the first; in a parallel loop it may change places with the rounds before it. So the log
+-- goes on with the rest of the round and the loop, in the loop's order.
 -- The weak loop: the rounds before it are gathered in front, which by regrouping is again a log of the loop, clear of
--- the action's lifeline; after it the rest of the round and the loop.
+-- the action's lifeline; after them come the rest of the round and the loop.
 -- Assumes nothing.
 use mathlib.Core.List.{[], _∷_}
 use mathlib.Core.Path.{subst}
@@ -54,8 +54,8 @@ parallel-begins M {a} (more m v (dealt (right {u = u} {t = t} n x))) = exchange 
 
 -- ---- weak loop
 
--- What goes on after a: earlier rounds that are clear of a's lifeline, then the rest of a round that began with a,
--- and the loop.
+-- How the log goes on after a: earlier rounds that are clear of a's lifeline, then the rest of a round that began with
+-- a, and the loop.
 abbrev pub Fronted : Traces → Action → Traces
 Fronted M a = Joined (Deal seq) (λ f. Star (each seq) M f × Clear (a .line) f) (Begun (each seq) M a)
 

@@ -1,10 +1,10 @@
--- Document 000's "repetition nesting" is false for head loops by its own Definitions 2, 3 and 5, so nobody may use
+-- Document 000's "repetition nesting" is false for head loops by its own Definitions 2, 3 and 5, so no proof here uses
 -- it. Figure 4 and Definition 6 state that (x^◇₁*)^◇₂* is x^min(◇₁,◇₂)*; for the head loop of a strict loop and of a
--- head loop that would be the head loop alone. With x = alt(seq(0?1, 1!1), 1?0) the log 1?0 0?1 1?0 1!1 belongs to
--- both nestings and not to the head loop of x.
+-- head loop that would be the head loop alone. With x = alt(seq(0?1, 1!1), 1?0) the log 1?0 0?1 1?0 1!1 belongs to both
+-- nestings and not to the head loop of x.
 --
--- The search decides each published set, and antt computes the search. The rules by which a log is executed are not
--- touched by this.
+-- The search decides each published set, and antt computes the search. The rules by which a log is executed do not
+-- depend on the false equation.
 -- Assumes nothing.
 use mathlib.Core.List.{[], _∷_}
 use mathlib.Core.Logic.{_↔_}

@@ -1,8 +1,8 @@
 -- The answer under a lending: which of 10, 9 and the verdicts it is, exactly when, and with which figures.
 --
--- There are four cases, by what the run of the search comes to (Walking.antt, Spending.antt): the chart exceeds the
--- room; the lending reaches; the allowance is spent; the next follow-up exceeds the room. One of them always holds,
--- and no two of them: a follow-up that was made is within the most places.
+-- There are four cases, by how the run of the search goes (Walking.antt, Spending.antt): the chart exceeds the room;
+-- the lending reaches; the allowance is spent; the next follow-up exceeds the room. One of them always holds, and never
+-- two: a follow-up that was made is within the most places.
 -- Assumes nothing.
 use Prim.Native.Nat.{ℕ, zero, suc, _≤_, _<_, zero-le}
 use native.Mathlib.Nat.{zero-add, le-refl, le-trans, le-max-left, le-max-right, le-of-suc-le-suc, not-suc-le-zero}
@@ -60,7 +60,7 @@ verdict-figures long (refused d run) s p = (refl, refl)
 
 -- ---- runs
 
--- the chart is within the most places, and so is each follow-up that was made
+-- the chart is within the most places in use, and so is each follow-up that was made
 most-from : (p : ℕ) (run : List ℕ) → p ≤ most p run
 most-from p [] = le-refl p
 most-from p (n ∷ run) = le-trans (most-from p run) (le-max-right n (most p run))
@@ -155,7 +155,7 @@ module _ (c : Chart) (t : Log) (allowance room : ℕ) where
       let q = exceeds-none-later k j y x in
       omega arith
 
-  -- So two answers of these cases are one.
+  -- So two answers that each belong to one of these cases are the same.
   same-case : {q r : Answer} → Case q → Case r → q ≡ r
   same-case (too-large h e) (too-large g f) = e ∙ sym f
   same-case (too-large h e) (reached g f) = absurd (reaches-fits g h)
@@ -197,7 +197,7 @@ module _ (c : Chart) (t : Log) (allowance room : ℕ) where
   pub of-verdict : (P : Answer → Type 0) → Reaches c t allowance room → P (verdictOf c t) → P given
   of-verdict P r h = subst P (sym (reached-answer r)) h
 
-  -- ---- the case that each number tells
+  -- ---- the case that each number stands for
 
   is-verdict : {q : Answer} → q ≡ verdictOf c t → Verdict (q .number)
   is-verdict e =

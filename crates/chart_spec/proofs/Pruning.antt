@@ -1,8 +1,8 @@
--- Pruning keeps exactly the logs that avoid d, and prunes nothing twice.
+-- Pruning keeps exactly the logs that avoid d, and pruning a second time changes nothing.
 --
--- By induction on the chart. A deal avoids d exactly if both of its parts do, so pairs and rounds prune part by part.
--- A side of an alt, or the body of a loop, that does not evade d has no log that avoids d: dropping it loses none,
--- and a loop is left with no round.
+-- By induction on the chart. A deal avoids d exactly if both of its parts do, so pairs and rounds are pruned part by
+-- part. A side of an alt, or the body of a loop, that does not evade d has no log that avoids d: dropping it loses
+-- none, and a loop is left with no round.
 -- Assumes nothing.
 use Prim.Native.Nat.{ℕ}
 use mathlib.Core.Bool.{Bool, true, false}
@@ -49,12 +49,12 @@ star-keeps← d M N keeps t none e = none
 star-keeps← d M N keeps t (more {s = s} {u = u} m v x) e =
     let (f, g) = round-every→ _ x e in more (keeps s .1 (m, f)) (star-keeps← d M N keeps u v g) x
 
--- where no log of the body avoids d, a loop has none but the empty one
+-- if no log of the body avoids d, the only log of the loop that avoids d is the empty one
 star-keeps-no-round : {k : Loop} (d : ℕ) (M : Traces) → Acts d M → (t : Log) → Star k M t → Avoids d t → Only [] t
 star-keeps-no-round d M acts t none e = only
 star-keeps-no-round d M acts t (more {s = s} m v x) e = absurd (acts s m (round-every→ _ x e .0))
 
--- ---- each kind, by what evades
+-- ---- each kind, by which parts evade
 
 only-keeps : (d : ℕ) (s : Log) → Avoids d s → Keeps d (Only s) (Only s)
 only-keeps d s e t = (λ m. (m, avoids m), λ w. w .0)
@@ -112,7 +112,7 @@ loop-keeps d k b m false f f⁻ t = (nothing, λ w. star-keeps-no-round d (Membe
 acts-unless-it-evades : (c : Chart) (d : ℕ) → ¬ T (evades c d) → Acts d (Member c)
 acts-unless-it-evades c d never t m e = never (evades← c d t m e)
 
--- A chart that evades d keeps, when it is pruned by d, exactly its logs that avoid d (000, Lemma 7).
+-- When a chart that evades d is pruned by d, it keeps exactly its logs that avoid d (000, Lemma 7).
 pub prune-keeps : (c : Chart) (d : ℕ) → T (evades c d) → Keeps d (Member c) (Member (chartOf (prune c d)))
 unfolding prune
 prune-keeps empty d h = only-keeps d [] tt

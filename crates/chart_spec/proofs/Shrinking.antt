@@ -1,6 +1,6 @@
--- Pruning makes a chart no greater, by any count that grows with the parts of a chart, as its nodes and its depth do.
--- By induction on the chart: an alt becomes one of its sides or an alt of both pruned, a loop becomes one of its body
--- pruned or empty. What pruning takes anew is therefore no more than the chart has nodes.
+-- Pruning makes no chart larger, by any count that grows with the parts of a chart, as the number of nodes and the
+-- depth do. By induction on the chart: an alt becomes one of its sides pruned or an alt of both pruned, a loop becomes
+-- the loop of its pruned body or empty. So pruning takes no more new places than the chart has nodes.
 -- Assumes nothing.
 use Prim.Native.Nat.{ℕ, _≤_}
 use native.Mathlib.Omega.{arith}
@@ -70,7 +70,7 @@ pruned-no-larger = pruned-no-greater size size-grows
 pub pruned-no-deeper : (c : Chart) (d : ℕ) → depth (chartOf (prune c d)) ≤ depth c
 pruned-no-deeper = pruned-no-greater depth depth-grows
 
--- What is made costs no more than its nodes.
+-- What was made takes no more places than it has nodes.
 cost-at-most-its-nodes : (m : Made) → costOf m ≤ size (chartOf m)
 cost-at-most-its-nodes (kept c) = omega arith
 cost-at-most-its-nodes newEmpty = omega arith

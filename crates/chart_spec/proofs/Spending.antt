@@ -1,6 +1,6 @@
--- What a run comes to: it goes through whole exactly if the allowance reaches its length and the room its most; else
--- it stops at the first follow-up that may not be made, with 9 if the allowance is spent there, and with 10 if only
--- the room is.
+-- How a run ends: it goes through whole exactly if the allowance reaches its length and the room its most places; else
+-- it stops at the first follow-up that may not be made: with 9 if the allowance is spent there, and with 10 if only the
+-- room is exceeded.
 --
 -- By induction on the run, from any steps made and places in use so far.
 -- Assumes nothing.
@@ -26,8 +26,9 @@ step-later : (s k : ℕ) → suc s + k ≡ s + suc k
 step-later s k = omega arith
 
 module _ (allowance room : ℕ) (on : ℕ → ℕ → Ending) where
-  -- What a run comes to, from s steps made and p places in use: it goes through; or its first k follow-ups are made,
-  -- and the next one is wanted with the allowance spent; or with the allowance not spent, but too large for the room.
+  -- How a run ends, from s steps made and p places in use: it goes through; or its first k follow-ups are made, and the
+  -- next one is wanted but the allowance is spent; or the allowance is not spent, but the next one is too large for the
+  -- room.
   pub data Course (s p : ℕ) (run : List ℕ) (end : Ending) : Type 0 where
     whole : s + length run ≤ allowance → most p run ≤ room → end ≡ on (s + length run) (most p run) → Course s p run end
     out-of-steps : (k : ℕ) → k < length run → most p (take k run) ≤ room → s + k ≡ allowance
@@ -35,7 +36,7 @@ module _ (allowance room : ℕ) (on : ℕ → ℕ → Ending) where
     out-of-room : (k : ℕ) → k < length run → most p (take k run) ≤ room → s + k < allowance → room < getD run k 0
         → end ≡ stopped 10 (s + k) (most p (take k run)) → Course s p run end
 
-  -- one follow-up was made: what the rest comes to is what all come to
+  -- one follow-up was made: the whole run ends as the rest of it does
   course-later : (s p n : ℕ) (run : List ℕ) (end : Ending) → Course (suc s) (max p n) run end → Course s p (n ∷ run) end
   course-later s p n run end (whole a b e) =
       whole (rw (← step-later s (length run)) a) (rw (← most-later p n run) b)
@@ -62,7 +63,7 @@ module _ (allowance room : ℕ) (on : ℕ → ℕ → Ending) where
       let h = f⁻ tt in out-of-room 0 (suc-le-suc zero-le) hp (omega arith) (g tt) (still 10 s p)
   course-next s p n run hs hp false false f f⁻ g rest = course-later s p n run _ (rest tt tt)
 
-  -- What every run comes to.
+  -- How every run ends.
   pub course : (s p : ℕ) (run : List ℕ) → s ≤ allowance → p ≤ room → Course s p run (spend allowance room run on s p)
   unfolding spend
   course s p [] hs hp = whole (omega arith) hp (ap (λ (m : ℕ). on m p) (sym (add-zero s)))

@@ -1,4 +1,4 @@
--- Tests that are joined by `&&`, `||` and `not`, as types and back; and tests that code makes.
+-- Tests that are joined by `&&`, `||` and `not`, as types and back; and tests that the code makes.
 -- Assumes nothing.
 use mathlib.Core.Bool.{Bool, true, false, _&&_, _||_, not}
 use mathlib.Core.Logic.{_⊎_, inl, inr}
@@ -36,7 +36,7 @@ pub both-true : (p q : Bool) → (p && q) ≡ true → (p ≡ true) × (q ≡ tr
 both-true true q h = (refl, h)
 both-true false q h = (h, cc)
 
--- Code asks whether a call did not answer yes; `r` is what it answered, p what it ensures.
+-- The code tests whether a call returned false; `r` is what it returned, `p` what its contract ensures.
 pub test-failed : {p r : Bool} → r ≡ p → not r ≡ true → p ≡ false
 test-failed {p} {r} e h = sym e ∙ not-true r h
 

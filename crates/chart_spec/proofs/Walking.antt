@@ -1,9 +1,9 @@
 -- The search under a lending makes the follow-ups of the search with nothing to stop it, in the same order, until it
 -- is stopped: it is the run of that search, spent against the allowance and the room.
 --
--- `spend` goes along a run, asks before each follow-up as the search does, and hands over at the end. Whatever keeps
--- a stop as it is can be done at the end of the run or after it, so a failed choice and the choices after it spend
--- their runs one after the other. The rest is induction on the log and on the choices.
+-- `spend` goes along a run, makes the search's tests before each follow-up, and hands over at the end. A function that
+-- leaves a stopped ending as it is can be applied at the end of the run or after it, so a failed choice and the choices
+-- after it spend their runs one after the other. The rest is induction on the log and on the choices.
 -- Assumes nothing.
 use Prim.Native.Nat.{ℕ, suc, _+_}
 use mathlib.Core.Bool.{Bool, true, false, cond}
@@ -43,12 +43,12 @@ use Rattle.chart_spec.specs.Lending.{
   answer,
 }
 
--- How a search ends that was not stopped.
+-- How a search that was not stopped ends.
 abbrev pub ending : Outcome → ℕ → ℕ → Ending
 ending (accepted run) s p = found s p
 ending (refused deepest run) s p = failed deepest s p
 
--- The verdict on a log of some length, by the outcome of the search and its figures.
+-- The verdict on a log of length `long`, from the outcome of the search and its figures.
 abbrev pub verdict : ℕ → Outcome → ℕ → ℕ → Answer
 verdict long o s p = told long (ending o s p)
 
@@ -56,11 +56,11 @@ verdict long o s p = told long (ending o s p)
 abbrev pub verdictOf : Chart → Log → Answer
 verdictOf c t = verdict (length t) (searched c t) (stepsOf c t) (placesOf c t)
 
--- What keeps a stop as it is.
+-- A function that leaves a stopped ending as it is.
 abbrev pub KeepsStops : (Ending → Ending) → Type 0
 KeepsStops f = (number s p : ℕ) → f (stopped number s p) ≡ stopped number s p
 
--- It can be done after a follow-up, or to how it goes on.
+-- It can be applied after a follow-up, or to how the search goes on.
 pub follow-up-then : (f : Ending → Ending) → KeepsStops f → (b e : Bool) (n : ℕ) (on : ℕ → ℕ → Ending) (s p : ℕ)
     → f (followUp b e n on s p) ≡ followUp b e n (λ s p. f (on s p)) s p
 follow-up-then f h true true n on s p = h 9 s p
@@ -69,11 +69,11 @@ follow-up-then f h false true n on s p = h 10 s p
 follow-up-then f h false false n on s p = refl
 
 module _ (allowance room : ℕ) where
-  -- The next follow-up, to n places, and then how it goes on.
+  -- The next follow-up, to n places in use, and then how the search goes on.
   abbrev pub next : ℕ → (ℕ → ℕ → Ending) → ℕ → ℕ → Ending
   next n on s p = followUp (leb allowance s) (ltb room n) n on s p
 
-  -- The run, follow-up by follow-up, and then how it goes on.
+  -- The run, follow-up by follow-up, and then how the search goes on.
   unfoldable pub spend : List ℕ → (ℕ → ℕ → Ending) → ℕ → ℕ → Ending
   spend [] on s p = on s p
   spend (n ∷ run) on s p = next n (spend run on) s p
@@ -84,7 +84,7 @@ module _ (allowance room : ℕ) where
 
   -- ---- runs one after the other
 
-  -- two ways to go on
+  -- two ways to go on are the same
   abbrev Alike : (ℕ → ℕ → Ending) → (ℕ → ℕ → Ending) → Type 0
   Alike f g = (s p : ℕ) → f s p ≡ g s p
 
@@ -116,13 +116,13 @@ module _ (allowance room : ℕ) where
 
   -- ---- the choices
 
-  -- one that failed, and then those after it
+  -- a choice that failed, and then those after it
   failed-spent : (d : ℕ) (run : List ℕ) (rest : Outcome)
       → Alike (spend run (λ s p. deepened (suc d) (spent rest s p))) (spent (orElse d run rest))
   failed-spent d run (accepted more) = spend-both (deepened (suc d)) (λ number s p. refl) run more found
   failed-spent d run (refused e more) = spend-both (deepened (suc d)) (λ number s p. refl) run more (failed e)
 
-  -- one that was made, before its step
+  -- a choice, from before its step on
   or-next-spent : (first rest : Outcome) (n : ℕ)
       → Alike (next n (λ s p. orNext (spent first s p) (spent rest))) (spent (step n first rest))
   unfolding spend
@@ -168,7 +168,7 @@ module _ (allowance room : ℕ) where
       attempts-spent (λ x n s p. walk allowance room t x n s p) (λ x n. explore t x n) (walk-is-spent t) used
       (follows c a)
 
--- The answer, by the run.
+-- The answer, from the run.
 pub answer-is-spent : (c : Chart) (t : Log) (allowance room : ℕ)
     → answer c t allowance room
     ≡ cond (ltb room (size c)) (halted 10 0 0) (told (length t) (spent allowance room (searched c t) 0 (size c)))

@@ -1,4 +1,4 @@
--- Actions and logs, and which lifelines a log leaves alone.
+-- Actions and logs, and which lifelines never act in a log.
 -- Assumes nothing.
 use Prim.Native.Nat.{ℕ}
 use mathlib.Core.Bool.{Bool, Bool·beq, _&&_}
@@ -21,7 +21,7 @@ Log = List Action
 abbrev pub same : Action → Action → Bool
 same a b = eqb (a .line) (b .line) && Bool·beq (a .receives) (b .receives) && eqb (a .message) (b .message)
 
--- Two lifelines are in conflict if they are one (000, 3.1, the conflict predicate).
+-- Two lifelines are in conflict if they are the same (000, 3.1, the conflict predicate).
 abbrev pub Clash : ℕ → ℕ → Type 0
 Clash l d = l ≡ d
 

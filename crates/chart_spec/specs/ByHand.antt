@@ -1,5 +1,5 @@
 -- The thirteen rows of 01's table "Logs worked by hand", in its order.
--- That each is answered as the table says is one theorem, in proofs/ByHand.antt.
+-- One theorem, in proofs/ByHand.antt, shows that each row gets the answer that the table says.
 -- Assumes nothing.
 use Prim.Native.Nat.{ℕ}
 use mathlib.Core.Bool.{true, false}

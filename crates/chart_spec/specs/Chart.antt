@@ -8,7 +8,7 @@ use Rattle.chart_spec.specs.Action.{Action}
 pub data Order : Type 0 where
   strict seq par : Order
 
--- The four loops: each round after the last in one of the three orders, or the head loop
+-- The four loops: each round follows the round before it in one of the three orders; or the head loop
 -- (01, The chart card, kinds 7 to 10).
 pub data Loop : Type 0 where
   each : Order → Loop

@@ -1,5 +1,6 @@
 -- How a log is executed: terminating, evading, pruning, and the follow-ups of a chart by an action, with what each
--- costs in places. The rules say which parts are kept and which nodes are new; chart and cost are both read off that.
+-- costs in places. The rules say which parts are kept and which nodes are new; the chart and its cost both follow from
+-- that.
 -- Assumes nothing.
 use Prim.Native.Nat.{ℕ, _+_}
 use mathlib.Core.Bool.{Bool, true, false, cond, not, _&&_, _||_}
@@ -26,7 +27,7 @@ evades (alt l r) d = evades l d || evades r d
 evades (pair o l r) d = evades l d && evades r d
 evades (loop k b) d = true
 
--- What the rules make of a chart, with what is new in it told apart: parts kept as they stand, and new nodes.
+-- What the rules make of a chart: parts kept as they stand, and new nodes. The two are told apart.
 pub data Made : Type 0 where
   kept : Chart → Made
   newEmpty : Made
@@ -63,7 +64,7 @@ abbrev pub prunedLoop : Bool → Loop → Made → Made
 prunedLoop true k m = newLoop k m
 prunedLoop false k m = newEmpty
 
--- Pruning by d, only of what evades d (01, How a log is executed; 000, Definition 10).
+-- Pruning by d. Only a chart that evades d is pruned (01, How a log is executed; 000, Definition 10).
 unfoldable pub prune : Chart → ℕ → Made
 prune empty d = kept empty
 prune (act a) d = kept (act a)
@@ -84,15 +85,15 @@ abbrev pub between : Loop → Order
 between (each o) = o
 between head = seq
 
--- What comes of the right side's follow-ups xs by an action on d, in a pair with left side l. Strict: "only if the
--- left terminates, and the right's follow-up alone remains"; seq: "only if the left evades d, and the left is pruned
--- by d"; par: the side is replaced.
+-- What becomes of the right side's follow-ups xs by an action on d, in a pair with left side l. Strict: "only if the
+-- left terminates, and the right's follow-up alone remains"; seq: "only if the left evades d, and the left is pruned by
+-- d"; par: the side is replaced.
 abbrev pub onRight : Order → Chart → ℕ → List Made → List Made
 onRight strict l d xs = cond (terminates l) xs []
 onRight seq l d xs = cond (letsPass l d) (map (newPair seq (passed l d)) xs) []
 onRight par l d xs = map (newPair par (kept l)) xs
 
--- The round that was begun, before the loop itself.
+-- The rest of the round that was begun, and the loop itself after it.
 abbrev pub begun : Loop → Chart → Made → Made
 begun k b x = newPair (between k) x (kept (loop k b))
 

@@ -17,23 +17,23 @@ pub record Answer : Type 0 where
   pub steps : ℕ
   pub places : ℕ
 
--- How a search under a lending ends, each with the steps made and the most places in use: it found an accepting path;
--- or every choice failed, with the most actions executed on one path; or it was stopped, with its number.
+-- How a search under a lending ends, each time with the steps made and the most places in use: it found an accepting
+-- path; or every choice failed, with the most actions executed on one path; or it was stopped, with its number.
 pub data Ending : Type 0 where
   found : (steps places : ℕ) → Ending
   failed : (deepest steps places : ℕ) → Ending
   stopped : (number steps places : ℕ) → Ending
 
--- Before each follow-up 9, "a follow-up is wanted and the allowance is spent", then 10, "the next whole follow-up
--- exceeds the usable room"; else it is made: one step more, n places in use, and the search goes on
--- (01, Verdicts and numbers given).
+-- Before each follow-up the search tests for 9, "a follow-up is wanted and the allowance is spent", and then for 10,
+-- "the next whole follow-up exceeds the usable room". If neither holds, the follow-up is made: one step more, n places
+-- in use, and the search goes on (01, Verdicts and numbers given).
 -- (whether the allowance is spent, whether n exceeds the room, n, how it goes on, the steps and places so far)
 abbrev pub followUp : Bool → Bool → ℕ → (ℕ → ℕ → Ending) → ℕ → ℕ → Ending
 followUp true exceeds n on steps places = stopped 9 steps places
 followUp false true n on steps places = stopped 10 steps places
 followUp false false n on steps places = on (suc steps) (max places n)
 
--- An opening of d actions was executed besides.
+-- The ending, when another path has executed an opening of d actions.
 abbrev pub deepened : ℕ → Ending → Ending
 deepened d (found steps places) = found steps places
 deepened d (failed deepest steps places) = failed (max d deepest) steps places
@@ -61,7 +61,7 @@ module _ (allowance room : ℕ) where
   walk [] c used steps places = cond (terminates c) (found steps places) (failed 0 steps places)
   walk (a ∷ t) c used steps places = attempts (λ x n s p. walk t x n s p) used (follows c a) steps places
 
--- A log that was not accepted: 22 deviates if no path got through it, else 21 short. (whether none did)
+-- A log that was not accepted: 22 deviates if no path got through the whole log, else 21 short. (whether none did)
 abbrev pub unaccepted : Bool → ℕ
 unaccepted true = 22
 unaccepted false = 21
@@ -70,8 +70,8 @@ unaccepted false = 21
 abbrev pub halted : ℕ → ℕ → ℕ → Answer
 halted number s p = record { number = number; place = 0; steps = s; places = p }
 
--- What is told of a log of some length: 20 accepted and 21 short give that length, 22 deviates the deepest opening;
--- 9 and 10 have the figures reached so far (01, Verdicts and numbers given).
+-- The answer for a log of length `long`: 20 accepted and 21 short give that length, 22 deviates the deepest opening; 9
+-- and 10 have the figures reached so far (01, Verdicts and numbers given).
 abbrev pub told : ℕ → Ending → Answer
 told long (found s p) = record { number = 20; place = long; steps = s; places = p }
 told long (failed d s p) = record { number = unaccepted (ltb d long); place = d; steps = s; places = p }

@@ -21,7 +21,7 @@ pub data Deal (o : Order) : Log → Log → Log → Type 0 where
   left : {a : Action} {s u t : Log} → Deal o s u t → Deal o (a ∷ s) u (a ∷ t)
   right : {a : Action} {s u t : Log} → May o s a → Deal o s u t → Deal o s (a ∷ u) (a ∷ t)
 
--- A round s of a loop before the later rounds u. In the head loop the first action is the round's
+-- A round s of a loop before the later rounds u. In the head loop the first action belongs to s
 -- (01, Which logs belong to a chart).
 pub data Round : Loop → Log → Log → Log → Type 0 where
   dealt : {o : Order} {s u t : Log} → Deal o s u t → Round (each o) s u t

@@ -1,4 +1,4 @@
--- Openings of a log, and the longest with which some log of a set begins: what "short" and "deviates" are told by.
+-- Openings of a log, and the longest with which some log of a set begins: these define "short" and "deviates".
 -- Assumes nothing.
 use Prim.Native.Nat.{ℕ, _≤_}
 use mathlib.Core.List.{_∷_, _++_}

@@ -1,7 +1,7 @@
--- Which logs belong to a chart, literally as document 000 prints it: sections 3 and 4, Definitions 1, 2, 3 and 5.
--- This is the meaning that the demands speak of. The form that proofs work with is Member.antt; that the two agree
--- for every chart is proved in proofs/Agreement.antt. The equations of Figure 4 and Definition 6 are not used: one of
--- them is false (proofs/Nesting.antt).
+-- Which logs belong to a chart, literally as document 000 prints it: sections 3 and 4, Definitions 1, 2, 3 and 5. This
+-- is the meaning that the demands speak of. The form that proofs work with is Member.antt; proofs/Agreement.antt proves
+-- that the two agree for every chart. The equations of Figure 4 and Definition 6 are not used: one of them is false
+-- (proofs/Nesting.antt).
 -- Assumes nothing.
 use Prim.Native.Nat.{ℕ, zero, suc}
 use mathlib.Core.List.{[], _∷_, _++_}
@@ -16,7 +16,7 @@ abbrev pub strictSequencing : Operator
 strictSequencing t₁ t₂ = Only (t₁ ++ t₂)
 
 -- 000, 3.1, the three equations that interleaving and weak sequencing share. They differ only in the condition `free`
--- under which the first action of the right may stand before what is left of the left:
+-- under which the first action of the right may stand before the rest of the left:
 --   ε ◇ t₂ = { t₂ }
 --   t₁ ◇ ε = { t₁ }
 --   (a₁.t₁) ◇ (a₂.t₂) = { a₁.t | t ∈ t₁ ◇ (a₂.t₂) } ∪ { a₂.t | t ∈ (a₁.t₁) ◇ t₂, free (a₁.t₁) a₂ }

@@ -8,18 +8,19 @@ use Rattle.chart_spec.specs.Action.{Log}
 use Rattle.chart_spec.specs.Chart.{Chart, size}
 use Rattle.chart_spec.specs.Executing.{Made, chartOf, costOf, terminates, follows}
 
--- How a search ends. The run has, for each step in turn, the places in use after it. A refused search also tells its
+-- How a search ends. The run has, for each step in turn, the places in use after it. A refused search also has its
 -- deepest opening: the most actions executed on one path.
 pub data Outcome : Type 0 where
   accepted : (run : List ℕ) → Outcome
   refused : (deepest : ℕ) (run : List ℕ) → Outcome
 
--- A choice that failed `deepest` actions beyond its own, and then what the choices after it came to.
+-- A choice failed, at most `deepest` actions after its own; then the outcome of the choices after it.
 abbrev pub orElse : ℕ → List ℕ → Outcome → Outcome
 orElse deepest run (accepted rest) = accepted (run ++ rest)
 orElse deepest run (refused deeper rest) = refused (max (suc deepest) deeper) (run ++ rest)
 
--- One step to n places, what came of it, and what the choices after it would come to: acceptance ends the search.
+-- One step to n places in use, the outcome of that choice, and the outcome of the choices after it, if they are tried:
+-- acceptance ends the search.
 abbrev pub step : ℕ → Outcome → Outcome → Outcome
 step n (accepted run) rest = accepted (n ∷ run)
 step n (refused deepest run) rest = orElse deepest (n ∷ run) rest
@@ -49,7 +50,7 @@ abbrev pub runOf : Outcome → List ℕ
 runOf (accepted run) = run
 runOf (refused deepest run) = run
 
--- The most of n and the numbers of a run.
+-- The largest of n and the numbers of a run.
 abbrev pub most : ℕ → List ℕ → ℕ
 most n run = foldr max n run
 

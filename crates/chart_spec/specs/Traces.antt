@@ -1,4 +1,4 @@
--- Sets of logs and how an operator on logs is extended to them: what both forms of a chart's meaning are built with.
+-- Sets of logs, and how an operator on logs is extended to them. Both forms of a chart's meaning are built from these.
 -- Assumes nothing.
 use Rattle.chart_spec.specs.Action.{Log}
 
@@ -6,7 +6,7 @@ use Rattle.chart_spec.specs.Action.{Log}
 abbrev pub Traces : Type 1
 Traces = Log → Type 0
 
--- An operator takes two logs to the set of logs that they may be composed to
+-- An operator takes two logs to the set of logs that they may be composed into
 -- (000, 3.1, the profile of the scheduling operators).
 abbrev pub Operator : Type 1
 Operator = Log → Log → Traces

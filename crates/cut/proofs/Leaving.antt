@@ -1,5 +1,5 @@
--- In a room of 510 places, where a sound card's chart was laid and pruned, what is left of it stands at the root that
--- pruning answered: the chart has at most 255 nodes, and what pruning takes anew is no more.
+-- When a sound card's chart was laid and pruned in a room of 510 places, what is left of it stands at the root that
+-- pruning returned: the chart has at most 255 nodes, and pruning takes no more new places than that.
 -- Assumes nothing.
 use Prim.Native.Nat.{ℕ, _<_, _≤_}
 use mathlib.Core.Bool.{true}
@@ -47,7 +47,7 @@ module _ (card : List ℕ) (sound : Sound card) where
   few-places = sound→faultless card sound .few
 
   module _ (lifeline : ℕ) where
-    -- Laid into a room of 510 places,
+    -- When the chart was laid into a room of 510 places,
     module _ (room : List ℕ) (long : length room ≡ 510) (root : Root) (laid : Whole root ≡ laying card room)
         (full : List ℕ) (there : full ≡ laidIn card room) where
       usable : length room ≤ 16384
@@ -67,7 +67,7 @@ module _ (card : List ℕ) (sound : Sound card) where
       full-length : length full ≡ 510
       full-length = ap length there ∙ whole-keeps-the-length card room sound usable root laid ∙ long
 
-      -- what pruning answers is what the cut is found to be by its second test,
+      -- the result of pruning decides the cut's second test, 12,
       pub found-by-pruning :
           (after : List ℕ) (pruned : Pruned)
           → Prunes full (root .used) (chartIn full (root .place)) lifeline after pruned
@@ -77,7 +77,7 @@ module _ (card : List ℕ) (sound : Sound card) where
       found-by-pruning after Nothing (lost, keeps) =
           ap (rule 12) (sym (ap (λ c. evades c lifeline) whole-chart) ∙ lost)
 
-      -- and what is left of the chart stands at the root that pruning answered.
+      -- and what is left of the chart stands at the root that pruning returned.
       module _ (after : List ℕ) (part : Root)
           (pruned : Prunes full (root .used) (chartIn full (root .place)) lifeline after (Part part)) where
         inside : part .used ≤ length after
@@ -103,7 +103,7 @@ module _ (card : List ℕ) (sound : Sound card) where
                   (omega (arith, inside));
             }
 
--- It can be counted, and written into an output that has room for its card.
+-- What is left can be counted, and written into an output that is long enough for its card.
 module _ {card : List ℕ} {lifeline : ℕ} {room : List ℕ} {place : ℕ} (sound : Sound card)
     (left : Left card lifeline room place) where
   pub asks-counting : Rooted room place × size (chartIn room place) ≤ 255

@@ -1,4 +1,5 @@
--- A working definition, which nobody has to believe: what is found by pruning the chart of a card for a cut.
+-- A working definition, which nobody has to believe: the finding for a cut, from what pruning the card's chart
+-- returned.
 -- Assumes nothing.
 use Rattle.card_spec.specs.declared.Finding.{Finding}
 use Rattle.card_spec.specs.declared.Finding.the-variants.{Fine, Refused}

@@ -1,5 +1,5 @@
-// Cutting a device out of a chart card (01, "Verdicts and numbers given"): any card, lifeline and output get their one
-// answer. Answer and output are defined in cut_spec/specs/Cutting.antt.
+// Cutting a device out of a chart card (01, "Verdicts and numbers given"): every card, lifeline and output gets exactly
+// one answer. The answer and the output are defined in cut_spec/specs/Cutting.antt.
 ghost use mathlib.Core.Path.{_≡_};
 ghost use Prim.Native.Nat.{_<_};
 ghost use lib.ListN.{length};
@@ -10,7 +10,7 @@ use cut_spec::CutAnswer;
 use node::Node;
 use room_spec::Pruned;
 
-// The room that a cut takes at most: the places of the card's chart, and as many for what pruning makes anew.
+// The most room that a cut takes: the places of the card's chart, and as many again for what pruning makes.
 const ROOM: usize = 2 * Node::NODES;
 
 fn refused(number: u32, place: u32) -> CutAnswer
@@ -23,7 +23,7 @@ fn refused(number: u32, place: u32) -> CutAnswer
     }
 }
 
-// The cut of a sound card, its chart laid and pruned in a room of the cut's own.
+// The cut of a sound card: its chart is laid and pruned in a room of the cut's own.
 fn cut_in(card: &[u8], lifeline: u32, room: &mut [u32], out: &mut [u8]) -> CutAnswer
     requires { ⌜ Sound (now card) × lifeline < lifelinesOf (now card) × length (now room) ≡ 510 ⌝ }
     ensures { λ r.
@@ -49,8 +49,8 @@ fn cut_in(card: &[u8], lifeline: u32, room: &mut [u32], out: &mut [u8]) -> CutAn
     }
 }
 
-// The cut of any bytes as a card. What is refused leaves the output as found; a cut writes its card to the first bytes
-// of the output and leaves the others as found.
+// The cut of any bytes as a card. A refused cut leaves the output as found; any other writes its card to the first
+// bytes of the output and leaves the others as found.
 pub fn cut(card: &[u8], lifeline: u32, out: &mut [u8]) -> CutAnswer
     ensures { λ r.
         ⌜ r ≡ cutting (now (card .entry)) lifeline (length (now (out .entry)))

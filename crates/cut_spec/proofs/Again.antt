@@ -1,5 +1,5 @@
--- A card that was cut and is cut again by the same lifeline stays as it is: pruned once, a chart is pruned for good,
--- and the counts are the same.
+-- A card that was cut stays as it is when it is cut again by the same lifeline: pruning a chart a second time changes
+-- nothing, and the counts are the same.
 -- Assumes nothing.
 use Prim.Native.Nat.{ℕ}
 use mathlib.Core.List.{List, _++_}

@@ -1,5 +1,5 @@
 -- Pruning names no lifeline and no message that the chart did not name: what was declared stays declared. By induction
--- on the chart; an alt and a loop by what evades.
+-- on the chart; for an alt and a loop, by which parts evade.
 -- Assumes nothing.
 use Prim.Native.Nat.{ℕ}
 use mathlib.Core.Bool.{Bool, true, false}

@@ -1,5 +1,5 @@
--- What is left of a sound card's chart can be held by a card with the same counts: it is no larger and no deeper, and
--- names nothing that was not declared.
+-- A card with the same counts can hold what is left of a sound card's chart: it is no larger and no deeper, and names
+-- nothing that was not declared.
 -- Assumes nothing.
 use Prim.Native.Nat.{ℕ, _≤_}
 use mathlib.Core.List.{List}
@@ -26,7 +26,7 @@ few-nodes card sound =
     omega (arith, as-many-nodes (nodesOf card) faultless (sound→once card sound), faultless .few)
 
 module _ (card : List ℕ) (sound : Sound card) (lifeline : ℕ) where
-  -- What is left can be held by a card.
+  -- A card can hold what is left.
   pub left-over-held : Holds (lifelinesOf card) (messagesOf card) (leftOver card lifeline)
   left-over-held =
       let (l, m) = both-true (within 1 (lifelinesOf card) 16) (within 1 (messagesOf card) 64)

@@ -1,5 +1,5 @@
--- What the number of a cut tells: which numbers there are, what is returned and left with each, and what holds with 0
--- and 12. All by what the table tells.
+-- What the number of a cut says: which numbers there are, what is returned and left with each, and what holds with 0
+-- and 12. All of it follows from the table.
 -- Assumes nothing.
 use Prim.Native.Nat.{ℕ, _≤_}
 use mathlib.Core.List.{List, [], _++_}
@@ -90,7 +90,7 @@ cut-is-no-longer card lifeline s =
       at-least-six card (trailed .framed),
     )
 
--- What is returned and left, by what was found.
+-- What is returned and left, given what was found.
 refused-leaves :
     (f : Finding) (bytes : ℕ) (card out : List ℕ) → returned f bytes .number ≢ 0
     → (returned f bytes .length ≡ 0) × (leaves f card out ≡ out)
@@ -127,7 +127,7 @@ module _ (card : List ℕ) (lifeline : ℕ) (out : List ℕ) where
       let (s, short) = thirteen-only-short card lifeline (length out) (cut-answer→told card lifeline out) e in
       omega (arith, cut-is-no-longer card lifeline s)
 
-  -- Nothing refuses the cut: its card stands in front, and what is behind it is as it was.
+  -- Nothing refuses the cut: its card stands at the front of the output, and the bytes after it are as they were.
   module _ (all : Cuttable card lifeline (length out)) where
     abbrev bytes : List ℕ
     bytes = cutCard card lifeline

@@ -2,8 +2,8 @@
 -- keeps, and only cites others.
 --
 -- `cut` returns `cutting` of card, lifeline and the output's length, and leaves `outAfter` of card, lifeline and
--- output: that is its contract (cut/src/lib.rt), and `Cuts` its two equations. What is said here of the two definitions
--- (specs/Cutting.antt) is therefore said of the code. `Published` is a chart's trace set as document 000 composes it,
+-- output: that is its contract (cut/src/lib.rt), and `Cuts` its two equations. What holds here of the two definitions
+-- (specs/Cutting.antt) therefore holds of the code. `Published` is a chart's trace set as document 000 composes it,
 -- `cardChart` the chart that a card is. `CutTold` and `Cuttable` are 01's table as conditions (specs/Table.antt).
 -- Assumes nothing.
 use Prim.Native.Nat.{ℕ, _≤_}
@@ -47,7 +47,7 @@ use Rattle.cut_spec.proofs.Numbers.{
 }
 
 module _ (card : List ℕ) (lifeline : ℕ) (out : List ℕ) where
-  -- the answer, the output afterwards, and the bytes in front of it that were written
+  -- the answer, the output afterwards, and the bytes that were written at its front
   abbrev given : CutAnswer
   given = cutting card lifeline (length out)
 
@@ -57,7 +57,7 @@ module _ (card : List ℕ) (lifeline : ℕ) (out : List ℕ) where
   abbrev result : List ℕ
   result = take (given .length) after
 
-  -- ---- Demand 1: one answer, and what is left of the output
+  -- ---- Demand 1: one answer, and the output afterwards
 
   -- "Every card .., sound or spoiled, gets exactly one numbered answer": 0 to 6, or 11 to 13;
   pub every-input-gets-a-number : (given .number ≤ 6) ⊎ ((11 ≤ given .number) × (given .number ≤ 13))
@@ -91,7 +91,7 @@ module _ (card : List ℕ) (lifeline : ℕ) (out : List ℕ) where
 
   -- ---- Demand 2: what a cut keeps
 
-  -- "and is refused for want of such a log exactly if there is none": of a sound card and a declared lifeline.
+  -- "and is refused for want of such a log exactly if there is none": for a sound card and a declared lifeline.
   pub refused-for-want-of-one-exactly-if-there-is-none :
       (given .number ≡ 12) ↔ (Sound card × (¬ NotDeclared card lifeline) × NeverAvoided card lifeline)
   refused-for-want-of-one-exactly-if-there-is-none = twelve-iff card lifeline out
@@ -150,7 +150,7 @@ module _ (card : List ℕ) (lifeline : ℕ) (out : List ℕ) where
         (demands.cut-keeps-exactly-the-logs-without-the-device (cardChart card) lifeline
         (evades-it card lifeline (length out) all) t)
 
-    -- What was cut and is cut again by the same device has the same bytes: the same answer, and the same output.
+    -- A card that was cut and is cut again by the same device stays the same: the same answer, and the same output.
     pub cut-again-the-same :
         (cutting result lifeline (length out) ≡ given) × (outAfter result lifeline out ≡ after)
     cut-again-the-same =

@@ -1,5 +1,5 @@
 -- What was found decides the answer and the output: the card was refused; or the cut was, with 11, 12 or 13; or
--- neither, and the card that is left was written.
+-- neither, and the card of what is left was written.
 -- Assumes nothing.
 use Prim.Native.Nat.{ℕ, _<_, _≤_}
 use mathlib.Core.Bool.{true, false}

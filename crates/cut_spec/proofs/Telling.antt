@@ -1,6 +1,6 @@
 -- The answer to a cut is what 01's table tells: each number and place under its exact condition, and no other. The
--- conditions are looked up in their order, both ways: from the condition that holds to the answer, and from the answer
--- to the condition.
+-- proof takes the conditions in their order, both ways: from the condition that holds to the answer, and from the
+-- answer to the condition.
 -- Assumes nothing.
 use Prim.Native.Nat.{ℕ, _<_, _≤_}
 use mathlib.Core.Bool.{Bool, true, false}

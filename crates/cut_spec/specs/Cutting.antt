@@ -16,7 +16,7 @@ use Rattle.card_spec.specs.Checking.{rule, findings, first}
 use Rattle.write_spec.specs.Cards.{cardOf}
 use Rattle.cut_spec.specs.declared.CutAnswer.{CutAnswer}
 
--- The chart that is left of a card's: pruned by the lifeline (01, How a log is executed).
+-- The chart that is left: the card's chart, pruned by the lifeline (01, How a log is executed).
 abbrev pub leftOver : List ℕ → ℕ → Chart
 leftOver card lifeline = chartOf (prune (cardChart card) lifeline)
 
@@ -42,7 +42,7 @@ refusal card lifeline long = orElse (first (findings card)) (first (ofTheCut car
 abbrev pub refusedAt : ℕ → ℕ → CutAnswer
 refusedAt number place = record { number = number; place = place; length = 0 }
 
--- What is returned, by what was found: of a card of so many bytes "number 0, place 0 and its length".
+-- The answer, given what was found: for a card of so many bytes "number 0, place 0 and its length".
 abbrev pub returned : Finding → ℕ → CutAnswer
 returned Fine bytes = record { number = 0; place = 0; length = bytes }
 returned (Refused number place) bytes = refusedAt number place
@@ -51,8 +51,8 @@ returned (Refused number place) bytes = refusedAt number place
 unfoldable pub cutting : List ℕ → ℕ → ℕ → CutAnswer
 cutting card lifeline long = returned (refusal card lifeline long) (length (cutCard card lifeline))
 
--- The output, by what was found: "Output bytes beyond it stay. A refused cut writes nothing"
--- (01, Verdicts and numbers given).
+-- The output, given what was found: "Output bytes beyond it stay. A refused cut writes nothing" (01, Verdicts and
+-- numbers given).
 abbrev pub leaves : Finding → List ℕ → List ℕ → List ℕ
 leaves Fine bytes out = bytes ++ drop (length bytes) out
 leaves (Refused number place) bytes out = out

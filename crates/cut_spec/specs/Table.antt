@@ -33,7 +33,7 @@ pub record Cuttable (card : List ℕ) (lifeline long : ℕ) : Type 0 where
   pub avoided : Avoided card lifeline
   pub enough : ¬ TooShort card lifeline long
 
--- The number and place that a cut is given, each under its exact condition: of the card, and then of the cut.
+-- The number and place that a cut gets, each under its exact condition: first those of the card, then those of the cut.
 pub data CutTold (card : List ℕ) (lifeline long : ℕ) : ℕ → ℕ → Type 0 where
   spoiled : {number place : ℕ} → number ≢ 0 → Told card number place → CutTold card lifeline long number place
   eleven : Sound card → NotDeclared card lifeline → CutTold card lifeline long 11 0

@@ -1,5 +1,5 @@
-// The answer to a cut. What it is for the bytes of a card is said in specs/, and what is promised of it in
-// proofs/Promises.antt; the code that cuts is the crate `cut`.
+// The answer to a cut. specs/ defines it for the bytes of a card, and proofs/Promises.antt has what is promised of it;
+// the code that cuts is in the crate `cut`.
 
 // Number 0, place 0 and the length of the card that was written; or the number and place of a refusal, and no length.
 #[repr(C)]

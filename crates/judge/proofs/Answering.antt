@@ -1,4 +1,4 @@
--- The answer to a sound card and log, by what laying the chart and searching the log come to.
+-- The answer to a sound card and log, from what laying the chart and searching the log return.
 -- Assumes nothing.
 use Prim.Native.Nat.{ℕ, _+_, _<_, _≤_}
 use mathlib.Core.List.{List}
@@ -44,7 +44,7 @@ unfolding answer
 fitting-answer c t allowance room h = rw (le-ltb room (size c) h)
 
 module _ (card log room : List ℕ) (allowance : ℕ) (sound : Sound card) where
-  -- What is returned is what laying the chart found, else what is told of the search.
+  -- The answer of the search. What is returned is what laying the chart found, or else this answer.
   abbrev searched : Answer
   searched =
       let t = logOf log in

@@ -1,5 +1,5 @@
-// The judgment of a log by a card (01, "Verdicts and numbers given"): any card, log, allowance and room get their one
-// answer. Answer and room are defined in judge_spec/specs/Judgment.antt.
+// The judgment of a log by a card (01, "Verdicts and numbers given"): every card, log, allowance and room gets exactly
+// one answer. The answer and the room are defined in judge_spec/specs/Judgment.antt.
 ghost use mathlib.Core.Path.{_≡_};
 ghost use Prim.Native.Nat.{_≤_};
 ghost use lib.ListN.{length, replicate};
@@ -13,7 +13,7 @@ use judge_spec::Judged;
 use node::Node;
 use room_lay::Laid;
 
-// The answer to a sound card and log, in a room that is usable throughout.
+// The answer to a sound card and log, in a room that is usable as a whole.
 fn answer_in(card: &[u8], log: &[u8], allowance: u32, room: &mut [u32]) -> Judged
     requires { ⌜ Sound (now card) × length (now log) ≤ 256 × length (now room) ≤ 16384 ⌝ }
     ensures { λ r.
@@ -28,7 +28,7 @@ fn answer_in(card: &[u8], log: &[u8], allowance: u32, room: &mut [u32]) -> Judge
     judge_answer::tell(ended, allowance, (log.len() / log::ACTION_BYTES) as u32)
 }
 
-// The answer to a sound card and log, and the room cleared.
+// The answer to a sound card and log; the room is cleared.
 fn judge_sound(card: &[u8], log: &[u8], allowance: u32, room: &mut [u32]) -> Judged
     requires { ⌜ Sound (now card) × length (now log) ≤ 256 × length (now room) ≤ 16384 ⌝ }
     ensures { λ r.
@@ -52,7 +52,7 @@ fn usable(long: usize) -> usize
     }
 }
 
-// The judgment of any bytes as a card and a log. What is refused leaves the room as found; any other leaves its usable
+// The judgment of any bytes as a card and a log. A refusal leaves the room as found; any other answer leaves its usable
 // part zeroed.
 pub fn judge(card: &[u8], log: &[u8], allowance: u32, room: &mut [u32]) -> Judged
     ensures { λ r.

@@ -1,5 +1,5 @@
 // The answer to a refusal, and to a search that has ended (01, "Verdicts and numbers given"). Both are defined in
-// judge_spec/specs/Judgment.antt, by what is told of an ending in chart_spec/specs/Lending.antt.
+// judge_spec/specs/Judgment.antt; chart_spec/specs/Lending.antt says what is told of an ending.
 ghost use mathlib.Core.Path.{_≡_};
 ghost use Prim.Native.Nat.{_≤_};
 ghost use lib.Dec.{ltb};
@@ -21,7 +21,7 @@ pub fn refused(number: u32, place: u32) -> Judged
     }
 }
 
-// The number of a log that was not accepted: it deviates if no path got through it, else it is short.
+// The number of a log that was not accepted: it deviates if no path got through the whole log, else it is short.
 fn unaccepted(deepest: u32, actions: u32) -> u32
     ensures { λ r. ⌜ r ≡ unaccepted (ltb deepest actions) ⌝ }
 {
@@ -32,8 +32,8 @@ fn unaccepted(deepest: u32, actions: u32) -> u32
     }
 }
 
-// What is told of a search that had that allowance, for a log of so many actions. The steps are what is gone of the
-// allowance.
+// The answer to a search that began with this allowance, for a log of so many actions. The steps are what the search
+// has taken of the allowance.
 pub fn tell(ended: Ended, allowance: u32, actions: u32) -> Judged
     requires { ⌜ leftOf ended ≤ allowance ⌝ }
     ensures { λ r. ⌜ r ≡ judgedOf (told actions (endingOf allowance ended)) ⌝ }

@@ -1,5 +1,5 @@
--- The card and the log that 01 prints, as bytes, are judged as 01 says: 20 accepted, place 2, steps 2, places 6. By
--- computing it.
+-- The card and the log that 01 prints, as bytes, are judged as 01 says: 20 accepted, place 2, steps 2, places 6. Proved
+-- by computing.
 -- Assumes nothing.
 use Prim.Native.Nat.{ℕ}
 use mathlib.Core.List.{List, [], _∷_}

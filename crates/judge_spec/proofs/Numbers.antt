@@ -1,5 +1,5 @@
--- Which numbers a judgment gives: 1 to 8 exactly where card or log are refused, and 9, 10 or a verdict exactly where
--- they are not. A card and a log are one or the other, and the numbers tell them apart.
+-- Which numbers a judgment gives: 1 to 8 exactly if the card or the log is refused, and 9, 10 or a verdict exactly if
+-- neither is. One of the two always holds, and the number tells which.
 -- Assumes nothing.
 use Prim.Native.Nat.{ℕ, _%_, _<_, _≤_, zero-le}
 use mathlib.Core.List.{List}
@@ -28,7 +28,7 @@ whole-log card log s = by (ℕ-discrete (length log % 2) 0)
     by (yes e) = e
     by (no h) = absurd (s .whole (inl h))
 
--- Refused numbers are 1 to 8.
+-- The numbers of refusals are 1 to 8.
 refused-range : (card log : List ℕ) {number place : ℕ} → Refused card log number place → (1 ≤ number) × (number ≤ 8)
 refused-range card log (by-the-card h told) =
     let is = given-exactly-as-the-table-tells card _ _ .1 told .0 in
@@ -41,7 +41,7 @@ module _ (card log : List ℕ) (allowance : ℕ) (room : List ℕ) where
   abbrev given : Judged
   given = judgment card log allowance (length room)
 
-  -- What is not refused has 9, 10 or a verdict.
+  -- A sound card and log get 9, 10 or a verdict.
   sound-number : SoundBoth card log → Verdict (given .number) ⊎ (given .number ≡ 9) ⊎ (given .number ≡ 10)
   sound-number s =
       rw (sound-judges card log allowance room s .0)
@@ -59,7 +59,7 @@ module _ (card log : List ℕ) (allowance : ℕ) (room : List ℕ) where
   in-range n (inr (inl e)) = inl (omega arith, omega arith)
   in-range n (inr (inr e)) = inl (omega arith, omega arith)
 
-  -- What is refused has its number and place, and no figures.
+  -- A refusal has its number and place, and no figures.
   refused-given : {number place : ℕ} → Refused card log number place → given ≡ refusedAt number place
   refused-given r = sym (refused-judges card log allowance room r .0)
 
@@ -73,7 +73,7 @@ module _ (card log : List ℕ) (allowance : ℕ) (room : List ℕ) where
           inl (omega arith, omega arith)
       by (is-sound s) = in-range (given .number) (sound-number s)
 
-  -- Up to 8 it was refused, with that number and place.
+  -- A number up to 8 is a refusal with that number and place.
   refused-there : given .number ≤ 8 → Refused card log (given .number) (given .place)
   refused-there h = by (looked-at card log)
     where
@@ -108,7 +108,7 @@ module _ (card log : List ℕ) (allowance : ℕ) (room : List ℕ) where
   pub refused-room : given .number ≤ 8 → roomAfter card log room ≡ room
   refused-room h = sym (refused-judges card log allowance room (refused-there h) .1)
 
-  -- Nothing is refused with figures, and the answer to a sound card and log is within the lending.
+  -- A refusal has no figures, and the answer to a sound card and log is within the lending.
   pub figures-within : (given .steps ≤ allowance) × (given .places ≤ usable (length room))
   figures-within = by (looked-at card log)
     where

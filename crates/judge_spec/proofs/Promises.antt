@@ -2,11 +2,11 @@
 -- only cites others.
 --
 -- `judge` returns `judgment` of card, log, allowance and the room's length, and leaves `roomAfter` of card, log and
--- room: that is its contract (judge/src/lib.rt), and `Judges` its two equations. What is said here of the two
--- definitions (specs/Judgment.antt) is therefore said of the code. `Published` is a chart's trace set as document 000
--- composes it, `cardChart` the chart that a card is, `logOf` the log that bytes are. `Begins`, `Longer` and `Longest`
--- speak of openings, `Reaches`, `Wants` and `Exceeds` of a lending (crate `chart_spec`). `Refused` and `SoundBoth`
--- are 01's table, numbers 1 to 8, as conditions (specs/Table.antt).
+-- room: that is its contract (judge/src/lib.rt), and `Judges` its two equations. What holds here of the two definitions
+-- (specs/Judgment.antt) therefore holds of the code. `Published` is a chart's trace set as document 000 composes it,
+-- `cardChart` the chart that a card is, `logOf` the log that bytes are. `Begins`, `Longer` and `Longest` speak of
+-- openings, `Reaches`, `Wants` and `Exceeds` of a lending (crate `chart_spec`). `Refused` and `SoundBoth` are 01's
+-- table, numbers 1 to 8, as conditions (specs/Table.antt).
 -- Assumes nothing.
 use Prim.Native.Nat.{ℕ, _<_, _≤_}
 use mathlib.Core.List.{List, _++_}
@@ -47,7 +47,7 @@ module _ (card log : List ℕ) (allowance : ℕ) (room : List ℕ) where
   abbrev places : ℕ
   places = usable (length room)
 
-  -- ---- Demand 1: one answer, and what is left of the room
+  -- ---- Demand 1: one answer, and the room afterwards
 
   -- "Every card, log, allowance and working room, sound or spoiled, gets exactly one numbered answer": 1 to 10, 20, 21
   -- or 22;
@@ -93,7 +93,7 @@ module _ (card log : List ℕ) (allowance : ℕ) (room : List ℕ) where
   -- ---- Demand 2: what a verdict says of the log
 
   module _ (verdict : Verdict (given .number)) where
-    -- A verdict is only given of a sound card and log.
+    -- A verdict is given only for a sound card and log.
     pub verdict-only-for-sound-input : SoundBoth card log
     verdict-only-for-sound-input = begun-exactly-for-sound-input .0 (above verdict)
       where
@@ -150,7 +150,7 @@ module _ (card log : List ℕ) (allowance : ℕ) (room : List ℕ) where
     -- ---- Demand 3: steps and places
 
     -- "For each sound chart and log the written search rules fix a number of steps and a number of places." They are
-    -- `stepsOf` and `placesOf`: no lending stands in them.
+    -- `stepsOf` and `placesOf`, which do not depend on the lending.
     -- The verdict has them,
     pub verdict-has-the-figures : (given .steps ≡ stepsOf chart t) × (given .places ≡ placesOf chart t)
     verdict-has-the-figures = rw same (demands.verdict-has-the-figures chart t allowance places reached)
@@ -166,7 +166,7 @@ module _ (card log : List ℕ) (allowance : ℕ) (room : List ℕ) where
         (sym (demands.same-whatever-more-is-lent chart t allowance places more (usable (length larger)) reached all))
         ∙ sym same
 
-  -- "A verdict comes exactly when the allowance and the usable room reach these two": of a sound card and log.
+  -- "A verdict comes exactly when the allowance and the usable room reach these two": for a sound card and log.
   pub verdict-exactly-when-reached : Verdict (given .number) ↔ (SoundBoth card log × Reaches chart t allowance places)
   verdict-exactly-when-reached = (
     λ v. (verdict-only-for-sound-input v, reached v),
@@ -225,6 +225,6 @@ module _ (card log : List ℕ) (allowance : ℕ) (room : List ℕ) where
       (usable (length lentRoom)))
       ∙ sym (sound-judges card log lent lentRoom sound .0)
 
--- "Every chart has at least one log" (01, Which logs belong to a chart): that of a card, too.
+-- "Every chart has at least one log" (01, Which logs belong to a chart): so the chart of every card has one.
 pub every-card-has-a-log : (card : List ℕ) → (t : Log) × Published (cardChart card) t
 every-card-has-a-log card = demands.every-chart-has-a-log (cardChart card)

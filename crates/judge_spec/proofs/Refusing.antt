@@ -43,7 +43,7 @@ module _ (card log : List ℕ) (allowance : ℕ) (room : List ℕ) where
     unfolding judgment roomAfter
     log-refused number place e = rw (sound→nothing-found card sound, e) (refl, refl)
 
-    -- Neither was: the usable part was judged in and cleared.
+    -- Neither was refused: the judgment used the usable part of the room and cleared it.
     pub both-sound : (r : Judged) (end : ℕ) (part : List ℕ) → refusing (lifelinesOf card) (messagesOf card) log ≡ Fine
         → end ≡ usable (length room)
         → r ≡ judgedOf (answer (cardChart card) (logOf log) allowance (length (take end room)))

@@ -1,6 +1,5 @@
 -- What refuses a card and a log is what 01's table tells: each number and place under its exact condition, and no
--- other;
--- and where nothing does, the judgment is the answer to the card's chart and the log.
+-- other. If nothing refuses them, the judgment is the answer to the card's chart and the log.
 -- Assumes nothing.
 use Prim.Native.Nat.{ℕ, _/_, _%_, _<_, _≤_}
 use mathlib.Core.Bool.{Bool, true, false}
@@ -66,7 +65,7 @@ module _ (card log : List ℕ) where
           found-undeclared
           ∙ lowest→refused 8 eight-is-real is-declared (UndeclaredAt card log) (length log / 2) i each-decided l
 
-  -- Nothing refuses them.
+  -- Nothing refuses a sound card and log.
   pub nothing-found : SoundBoth card log → refusing (lifelinesOf card) (messagesOf card) log ≡ Fine
   nothing-found s =
       found-undeclared (s .sound) (s .whole)

@@ -31,7 +31,7 @@ judgedOf a = record { number = a .number; place = a .place; steps = a .steps; pl
 abbrev pub refusedAt : ℕ → ℕ → Judged
 refusedAt number place = record { number = number; place = place; steps = 0; places = 0 }
 
--- What is returned, by what was found.
+-- What is returned, given what was found.
 abbrev pub returned : Finding → Answer → Judged
 returned Fine a = judgedOf a
 returned (Refused number place) a = refusedAt number place
@@ -46,7 +46,7 @@ abbrev pub cleared : List ℕ → List ℕ
 cleared room = replicate (usable (length room)) 0 ++ drop (usable (length room)) room
 
 -- "With 1 to 8 .. the room is as found. .. with these and all verdicts the usable room is zeroed" (01, Verdicts and
--- numbers given), by what was found.
+-- numbers given). What was found decides between the two.
 abbrev pub leaves : Finding → List ℕ → List ℕ
 leaves Fine room = cleared room
 leaves (Refused number place) room = room

@@ -1,5 +1,5 @@
-// What a judgment returns. What it is for the bytes of a card and of a log is said in specs/, and what is promised of
-// it in proofs/Promises.antt; the code that judges is the crate `judge`.
+// What a judgment returns. specs/ defines it for the bytes of a card and of a log, and proofs/Promises.antt has what is
+// promised of it; the code that judges is in the crate `judge`.
 
 // The judgment of a log by a card: number, place, steps, places.
 #[repr(C)]

@@ -9,7 +9,7 @@ ghost use Rattle.log_spec.specs.Refusing.{inRule, declared, undeclared, refusin
 use card_spec::Finding;
 use room_spec::Action;
 
-// The bytes of an action, and the most bytes of a log: 128 actions.
+// How many bytes an action has, and how many a log has at most: 128 actions.
 pub const ACTION_BYTES: usize = 2;
 
 pub const MOST_BYTES: usize = 256;
@@ -68,7 +68,7 @@ fn lowest_undeclared(log: &[u8], lifelines: u32, messages: u32) -> Finding
     Finding::Fine
 }
 
-// What refuses a log, by a card's number of lifelines and of messages.
+// What refuses a log, given the card's numbers of lifelines and messages.
 pub fn check(log: &[u8], lifelines: u32, messages: u32) -> Finding
     ensures { λ r. ⌜ r ≡ refusing lifelines messages (now (log .entry)) ⌝ }
 {

@@ -1,5 +1,5 @@
--- The actions of a log and its bytes: two bytes an action, from the front and at any place.
--- By recursion two bytes at a time.
+-- The actions of a log and its bytes: two bytes an action, at the front and at any index.
+-- By recursion, two bytes at a time.
 -- Assumes nothing.
 use Prim.Native.Nat.{ℕ, zero, suc, _+_, _*_, _-_, _%_, _<_, _≤_}
 use mathlib.Core.List.{List, [], _∷_, _++_}
@@ -40,7 +40,7 @@ action-of-the-log (first ∷ second ∷ rest) (suc i) none h =
     let first-at : suc i * 2 ≡ suc (suc (i * 2)) = omega arith in
     rw (second-at, first-at) (action-of-the-log rest i none (omega arith))
 
--- A log that begins with whole actions.
+-- The log of the bytes of whole actions with more bytes after them.
 pub log-of-both : (log more : List ℕ) → length log % 2 ≡ 0 → logOf (log ++ more) ≡ logOf log ++ logOf more
 log-of-both [] more h = refl
 log-of-both (first ∷ []) more h = absurd (omega arith)

@@ -1,5 +1,5 @@
--- What the rules of a log leave to rely on, and what a loop over its actions has found where one is declared and where
--- one is not.
+-- What can be relied on if a log passes the rules, and what a loop over its actions has found if an action is declared
+-- and if it is not.
 -- Assumes nothing.
 use Prim.Native.Nat.{ℕ, _+_, _%_, _<_, _≤_}
 use mathlib.Core.Bool.{Bool, true, false, cond}
@@ -21,7 +21,7 @@ pub in-rule-is-short : (log : List ℕ) → inRule log ≡ true → length log �
 in-rule-is-short log passed =
     leb-true (length log) 256 (both-true (eqb (length log % 2) 0) (leb (length log) 256) passed .1)
 
--- A log that is out of rule is refused with 7, whatever its actions are; of any other its actions decide.
+-- A log that is out of rule is refused with 7, whatever its actions are; for any other its actions decide.
 pub out-of-rule-is-seven :
     (lifelines messages : ℕ) (log : List ℕ) → inRule log ≡ false → refusing lifelines messages log ≡ Refused 7 0
 out-of-rule-is-seven lifelines messages log e = rw e

@@ -1,4 +1,4 @@
--- The actions of a log, out of its bytes.
+-- The actions of a log, read out of its bytes.
 -- Assumes nothing.
 use Prim.Native.Nat.{ℕ, _+_, _*_, _/_, _%_}
 use mathlib.Core.List.{List, [], _∷_}
@@ -10,7 +10,7 @@ use Rattle.chart_spec.specs.Action.{Action, Log}
 abbrev pub acts : ℕ → ℕ → Action
 acts first second = record { line = first / 2; receives = eqb (first % 2) 1; message = second }
 
--- The log that the bytes are. A last byte alone is no action; a log that has one is refused.
+-- The log that the bytes are. A single last byte is no action; a log that has one is refused.
 abbrev pub logOf : List ℕ → Log
 logOf [] = []
 logOf (first ∷ []) = []

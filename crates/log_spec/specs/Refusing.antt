@@ -11,11 +11,11 @@ use Rattle.card_spec.specs.Findings.{lowest, orElse}
 use Rattle.card_spec.specs.Checking.{rule}
 use Rattle.log_spec.specs.Bytes.{actionsOf, actionAt}
 
--- 7: of even length, and at most 256 bytes.
+-- 7: the length is even, and at most 256 bytes.
 abbrev pub inRule : List ℕ → Bool
 inRule log = eqb (length log % 2) 0 && leb (length log) 256
 
--- 8: an action whose lifeline and message are declared.
+-- 8: the action's lifeline and message are declared.
 abbrev pub declared : ℕ → ℕ → Action → Bool
 declared lifelines messages a = ltb (a .line) lifelines && ltb (a .message) messages
 
@@ -27,6 +27,6 @@ undeclaredOf lifelines messages log i = cond (declared lifelines messages (actio
 abbrev pub undeclared : ℕ → ℕ → List ℕ → Finding
 undeclared lifelines messages log = lowest (undeclaredOf lifelines messages log) (actionsOf log)
 
--- What is found of a log with that many lifelines and messages declared: 7, then 8 (01, Verdicts and numbers given).
+-- What is found in a log, with so many lifelines and messages declared: 7, then 8 (01, Verdicts and numbers given).
 abbrev pub refusing : ℕ → ℕ → List ℕ → Finding
 refusing lifelines messages log = orElse (rule 7 (inRule log)) (undeclared lifelines messages log)

@@ -1,6 +1,6 @@
 -- A node packed into a place and unpacked is the same node, and a place unpacked and packed is the same number. Both
--- rest on one thing, said over the width: a number shifted left by `width` bits with another one's lowest bits put in
--- by a mask is the two joined. The rest is division with remainder.
+-- rest on one law, for every width: shifting a number left by `width` bits and putting another's lowest bits in by a
+-- mask joins the two. The rest is division with remainder.
 -- Assumes nothing.
 use Prim.Native.Nat.{ℕ, _+_, _-_, _*_, _%_, _^_, _<_, _≤_}
 use mathlib.Core.Path.{_≡_}

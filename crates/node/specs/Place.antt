@@ -1,5 +1,5 @@
--- Working definitions, which nobody has to believe: a node as one number of 32 bits, which is how it stands in a
--- place of the room.
+-- Working definitions, which nobody has to believe: a node as one number of 32 bits, as it stands in a place of the
+-- room.
 -- Assumes nothing.
 use Prim.Native.Nat.{ℕ, _+_, _*_, _/_, _%_, _^_, _<_}
 use Rattle.node.specs.declared.Node.{Node}
@@ -16,7 +16,7 @@ wordOf n = joined 14 (joined 14 (n .kind % 2 ^ 4) (n .a)) (n .b)
 abbrev pub nodeOf : ℕ → Node
 nodeOf word = record { kind = word / 2 ^ 28; a = word / 2 ^ 14 % 2 ^ 14; b = word % 2 ^ 14 }
 
--- A node whose three numbers have room in a place.
+-- A node whose three numbers fit into a place.
 pub record Fitting (n : Node) : Type 0 where
   pub kind : n .kind < 2 ^ 4
   pub a : n .a < 2 ^ 14

@@ -1,10 +1,10 @@
 // A node of a chart (01, "The chart card"): the constants for kinds and limits, and a node packed into one place of the
-// room (01, "How a log is executed"). Packing is defined in specs/Place.antt; what kinds and rows of nodes stand for is
-// said in the crate `node_spec`.
+// room (01, "How a log is executed"). Packing is defined in specs/Place.antt; the crate `node_spec` says what kinds and
+// rows of nodes stand for.
 ghost use mathlib.Core.Path.{_≡_};
 ghost use Rattle.node.specs.Place.{wordOf, nodeOf};
 
-// The kind, and the two numbers that it gives a meaning: lifeline and message, or the numbers of the children.
+// The kind, and two numbers whose meaning depends on the kind: lifeline and message, or the numbers of the children.
 pub struct Node {
     pub kind: u32,
     pub a: u32,
@@ -42,7 +42,7 @@ impl Node {
 
     pub const DEPTH: u32 = 16;
 
-    // Nodes of a card, and the bytes of each, of the trailer and of the card.
+    // The most nodes of a card; the bytes of a node and of the trailer; the most bytes of a card.
     pub const NODES: usize = 255;
 
     pub const NODE_BYTES: usize = 4;
@@ -51,10 +51,11 @@ impl Node {
 
     pub const CARD_BYTES: usize = 4096;
 
-    // Places of the room that are usable.
+    // The most places of a room that are usable.
     pub const PLACES: usize = 16384;
 
-    // A place is one number: the kind in 4 bits above a and b in 14 bits each. What is too wide loses its high bits.
+    // A place is one number: the kind in the top 4 bits, below it a and b in 14 bits each. A number that is too wide
+    // loses its high bits.
     const KIND_MASK: u32 = 0xF;
 
     const KIND_SHIFT: u32 = 28;

@@ -1,4 +1,4 @@
--- Laws of nodes and places.
+-- Laws of nodes and of rows of nodes.
 pub mod Ranges
 pub mod Numbering
 pub mod Rows

@@ -49,11 +49,11 @@ known-kinds k known = by (decLt k 11)
     by (yes h) = h
     by (no h) = absurd (subst Known (above-ten-is-unknown k (omega arith)) known)
 
--- A known kind has that number alone.
+-- A known kind has that number only.
 pub kind-has-its-number : (k : ℕ) (is : Kind) → kindOf k ≡ is → Known is → k ≡ numberOf is
 kind-has-its-number k is e known = sym (numbered k (known-kinds k (subst Known (sym e) known))) ∙ ap numberOf e
 
--- The number of a known kind is that of its kind.
+-- The kind with the number of a known kind is that kind.
 pub number-of-its-kind : (k : Kind) → Known k → kindOf (numberOf k) ≡ k
 unfolding kindOf
 number-of-its-kind nothing known = refl
@@ -83,14 +83,14 @@ loop-in (pairs q) = head
 loop-in (loops l) = l
 loop-in unknown = head
 
--- A number is that of one pair, and of one loop.
+-- A number belongs to at most one pair, and to at most one loop.
 pub one-pair : (k j : ℕ) (p q : Pair) → k ≡ j → kindOf j ≡ pairs p → kindOf k ≡ pairs q → p ≡ q
 one-pair k j p q same e f = ap pair-in (sym e ∙ ap kindOf (sym same) ∙ f)
 
 pub one-loop : (k j : ℕ) (l m : Loop) → k ≡ j → kindOf j ≡ loops l → kindOf k ≡ loops m → l ≡ m
 one-loop k j l m same e f = ap loop-in (sym e ∙ ap kindOf (sym same) ∙ f)
 
--- A pair with no number of an order is the choice.
+-- A pair whose number is that of no order is the choice.
 pub else-the-choice : (k : ℕ) (q : Pair) → kindOf k ≡ pairs q → k ≢ 3 → k ≢ 4 → k ≢ 5 → choice ≡ q
 else-the-choice k (composed strict) e three four five =
     absurd (three (kind-has-its-number k (pairs (composed strict)) e tt))

@@ -1,5 +1,5 @@
--- What kind a number is, by the ranges over which code decides: 0; 1 and 2; 3 to 6, the pairs; 7 to 10, the loops;
--- above. Each is a part of the table of kinds.
+-- Which kind a number is, by the ranges that the code tests: 0; 1 and 2; 3 to 6, the pairs; 7 to 10, the loops; above
+-- 10. Each range is a part of the table of kinds.
 -- Assumes nothing.
 use Prim.Native.Nat.{ℕ, zero, suc, _+_, _-_, _≤_, _<_}
 use mathlib.Core.Bool.{Bool, true, false}

@@ -1,5 +1,6 @@
 -- Charts of a row of nodes: one more node adds one chart and changes none before it; there are as many charts as nodes.
--- All by induction on the row, over any charts before it. Last, how often a node is a child in a row of two parts.
+-- All by induction on the row, with any charts before it. At the end: how often a node is a child in a row of two
+-- parts.
 -- Assumes nothing.
 use Prim.Native.Nat.{ℕ, suc, _+_, _<_}
 use mathlib.Core.List.{List, [], _∷_, _++_}
@@ -36,7 +37,7 @@ length-chartsAfter before (n ∷ row) =
       length-append before (stands before n ∷ []),
     )
 
--- As many charts as nodes.
+-- There are as many charts as nodes.
 pub length-charts : (row : List Node) → length (charts row) ≡ length row
 unfolding charts
 length-charts row = omega (arith, length-chartsAfter [] row)
@@ -74,7 +75,7 @@ pub stands-alike :
     → ((j : ℕ) → j < p → getD all j empty ≡ getD before j empty) → stands all n ≡ stands before n
 stands-alike before all n p low agree = stands-as-before (kindOf (n .kind)) before all n p low agree
 
--- What stands at p, if its children are lower, is the chart of that node among all charts of the row.
+-- If the children of node p are lower than p, the chart at p is that of node p among all charts of the row.
 pub charts-at :
     (row : List Node) (p : ℕ) (d : Node) → p < length row → Below p (children (getD row p d))
     → getD (charts row) p empty ≡ stands (charts row) (getD row p d)

@@ -1,6 +1,6 @@
--- A row in which each node but the last is a child exactly once, and each child is lower than its parent, is one
--- tree: what each node weighs adds up to what the whole chart weighs. With weight 1 that is the number of nodes. The
--- argument: a chart weighs what its node weighs and what its children weigh. Summed over the row, each chart but the
+-- A row in which each node but the last is a child exactly once, and each child is lower than its parent, is one tree:
+-- the weights of its nodes add up to the weight of the whole chart. With weight 1 that is the number of nodes. The
+-- argument: a chart weighs what its node weighs plus what its children weigh. Summed over the row, each chart but the
 -- last is counted once on the right, as a child, so that only the last is left over.
 -- Assumes nothing.
 use Prim.Native.Nat.{ℕ, zero, suc, _+_, _-_, _*_, _<_, _≤_}
@@ -56,7 +56,7 @@ sumTo-none f zero h = refl
 sumTo-none f (suc n) h = omega (arith, sumTo-none f n (λ j l. h j (omega arith)), h n (omega arith))
 
 module _ (m : ℕ → ℕ) where
-  -- m at j if k is j, else nothing.
+  -- m j if k is j, else 0.
   abbrev only : ℕ → ℕ → ℕ
   only k j = cond (eqb k j) 1 0 * m j
 
@@ -66,7 +66,7 @@ module _ (m : ℕ → ℕ) where
   only-elsewhere : (k j : ℕ) → (k ≡ j → ⊥) → only k j ≡ 0
   only-elsewhere k j h = rw (ne-eqb k j h, zero-mul (m j))
 
-  -- Of a sum of these one is left.
+  -- In a sum of these only m k is left.
   sumTo-only : (k n : ℕ) → k < n → sumTo (only k) n ≡ m k
   sumTo-only k zero h = absurd (omega arith)
   sumTo-only k (suc n) h = last (ℕ-discrete k n) (λ l. sumTo-only k n l)
@@ -91,12 +91,12 @@ module _ (m : ℕ → ℕ) where
         sumTo-eq (λ j. times j (k ∷ ks) * m j) (λ j. only k j + times j ks * m j) n (λ j l. split j),
       )
 
-  -- All children of a row, each weighed.
+  -- The weights of all children of a row, added up.
   abbrev sumOfChildren : List Node → ℕ
   sumOfChildren [] = 0
   sumOfChildren (n ∷ row) = sumOf m (children n) + sumOfChildren row
 
-  -- Weighed by how often each number is a child.
+  -- The same sum, by how often each number is a child.
   sumOfChildren-by-uses :
       (n : ℕ) (row : List Node) → Every (λ x. Below n (children x)) row
       → sumOfChildren row ≡ sumTo (λ j. uses row j * m j) n
@@ -123,7 +123,7 @@ lower-than-the-last i last [] h l = tt
 lower-than-the-last i last (x ∷ row) h (b, l) =
     (below-more i last (children x) (omega arith) b, lower-than-the-last (suc i) last row (omega arith) l)
 
--- A chart's weight: what its node weighs and what its children weigh.
+-- A chart weighs what its node weighs plus what its children weigh.
 abbrev pub Weighs : (Chart → ℕ) → (Node → ℕ) → Type 0
 Weighs weight own =
     (before : List Chart) (n : Node)
@@ -134,11 +134,11 @@ sumOf-eq f g n [] h e = refl
 sumOf-eq f g n (k ∷ ks) (h, hs) e = omega (arith, e k h, sumOf-eq f g n ks hs e)
 
 module _ (weight : Chart → ℕ) (own : Node → ℕ) (weighs : Weighs weight own) where
-  -- Number j of the charts, weighed.
+  -- The weight of chart j.
   abbrev at : List Chart → ℕ → ℕ
   at all j = weight (getD all j empty)
 
-  -- The charts of a row weigh what its nodes weigh and what their children weigh.
+  -- The charts of a row weigh what its nodes weigh plus what their children weigh.
   charts-weigh :
       (before : List Chart) (row : List Node) (i n : ℕ) → i ≡ length before → n ≡ i + length row → LowerFrom i row
       → sumTo (at (chartsAfter before row)) n

@@ -9,7 +9,7 @@ use Rattle.chart_spec.specs.Chart.Order.{strict, seq, par}
 use Rattle.chart_spec.specs.Chart.Loop.{each, head}
 use Rattle.chart_spec.specs.Chart.Chart.{alt, pair}
 
--- The four pairs: two parts in one of the three orders, or a choice of them (01, The chart card, kinds 3 to 6).
+-- The four pairs: two parts in one of the three orders, or a choice between them (01, The chart card, kinds 3 to 6).
 pub data Pair : Type 0 where
   composed : Order → Pair
   choice : Pair
@@ -41,7 +41,7 @@ allKinds =
 unfoldable pub kindOf : ℕ → Kind
 kindOf k = getD allKinds k unknown
 
--- The number of a kind (01, The chart card); that of no kind is one that is not used.
+-- The number of a kind (01, The chart card); `unknown` gets a number that no kind has.
 abbrev pub numberOf : Kind → ℕ
 numberOf nothing = 0
 numberOf (action false) = 1

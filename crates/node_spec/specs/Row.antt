@@ -27,12 +27,12 @@ standsAs unknown before n = empty
 abbrev pub stands : List Chart → Node → Chart
 stands before n = standsAs (kindOf (n .kind)) before n
 
--- The charts of the nodes of a row that follows those.
+-- The charts `before` a row, and then those of its nodes.
 abbrev pub chartsAfter : List Chart → List Node → List Chart
 chartsAfter before [] = before
 chartsAfter before (n ∷ row) = chartsAfter (before ++ (stands before n ∷ [])) row
 
--- The charts of a row, one a node.
+-- The charts of a row, one for each node.
 unfoldable pub charts : List Node → List Chart
 charts row = chartsAfter [] row
 
@@ -61,7 +61,7 @@ abbrev pub times : ℕ → List ℕ → ℕ
 times j [] = 0
 times j (k ∷ ks) = cond (eqb k j) 1 0 + times j ks
 
--- The greatest of these numbers' values, 0 if there is no number.
+-- The greatest value of f at these numbers, 0 if there is no number.
 abbrev pub highest : (ℕ → ℕ) → List ℕ → ℕ
 highest f [] = 0
 highest f (k ∷ ks) = max (f k) (highest f ks)

@@ -1,2 +1,2 @@
-// What nodes stand for (01, "The chart card"): what each kind is, in specs/Kind.antt, and the charts of a row of nodes, in
-// specs/Row.antt. A node itself is the type `Node` of the crate `node`.
+// What nodes stand for (01, "The chart card"): specs/Kind.antt says what each kind is, specs/Row.antt which charts a
+// row of nodes stands for. A node itself is the type `Node` of the crate `node`.

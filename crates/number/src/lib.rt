@@ -1,6 +1,6 @@
 // The numbers of the answers, by name, and the larger of two numbers. When each number is given is defined in
-// card_spec/specs/Table.antt (1 to 6), judge_spec/specs/Table.antt (7 and 8), cut_spec/specs/Table.antt (11 to 13) and
-// chart_spec/specs/Lending.antt (the others).
+// card_spec/specs/Table.antt (0 to 6), judge_spec/specs/Table.antt (7 and 8), cut_spec/specs/Table.antt (0 and 11 to
+// 13) and chart_spec/specs/Lending.antt (9, 10 and the verdicts).
 ghost use mathlib.Core.Path.{_≡_};
 ghost use Prim.Native.Nat.{max};
 
@@ -25,7 +25,7 @@ pub const LOG_LENGTH: u32 = 7;
 
 pub const UNDECLARED_ACTION: u32 = 8;
 
-// Of what is lent to a judgment.
+// Of the lending.
 pub const ALLOWANCE_SPENT: u32 = 9;
 
 pub const ROOM_EXCEEDED: u32 = 10;

@@ -42,7 +42,7 @@ module _ (a b : Action) where
       rw (eq-eqb (a .line) (b .line) l, eq-eqb (a .message) (b .message) m)
       (always (Bool·beq (a .receives) (b .receives)))
 
--- The direction by the kind's number.
+-- The number of the kind gives the direction.
 pub direction : (n : Node) (r : Bool) → kindOf (n .kind) ≡ action r → eqb (n .kind) 2 ≡ r
 direction n true e = eq-eqb (n .kind) 2 (kind-has-its-number (n .kind) (action true) e tt)
 direction n false e =

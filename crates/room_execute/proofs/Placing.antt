@@ -1,5 +1,5 @@
--- Executing at a place, by the ranges of kinds over which the code decides: from the answers at its parts comes the
--- answer for the follow-ups of the chart that stands there.
+-- Executing at a place, by the ranges of kinds that the code tests: the answers at its parts give the answer for the
+-- follow-ups of the chart that stands there.
 -- Assumes nothing.
 use Prim.Native.Nat.{ℕ, _<_, _≤_}
 use mathlib.Core.List.{List, _++_, map}
@@ -105,7 +105,7 @@ module _ (work : Working) (k : ℕ) (a : Action) where
     right-there : (n .b < place) × Rooted before (n .b)
     right-there = right-lower r low high
 
-    -- What becomes of a follow-up on its left side, and the follow-ups that come of either side.
+    -- What a follow-up on its left side becomes, and the follow-ups that come from each side.
     abbrev replaced : Pair → Made → Made
     replaced q = besideRight q (chartIn before (n .b))
 
@@ -148,7 +148,7 @@ module _ (work : Working) (k : ℕ) (a : Action) where
             (in-the-first before used (lefts q) k (rights q) after y
             (changed-follow-up before used (followsAt (n .a)) k (replaced q) after y h carried))
 
-    -- None on its left side, and so many still to be passed over.
+    -- No follow-up on its left side, and `more` occurrences still to be passed over.
     module _ (middle : List ℕ) (more : ℕ) (on-left : Follows before used (followsAt (n .a)) k middle (Missing more))
       where
         middle-table : Table middle used

@@ -1,6 +1,6 @@
-// Executing an action (01, "How a log is executed"): its occurrences in a chart, from left to right, and the
-// follow-up of one of them, built in the room above the places in use. Follow-ups are defined in
-// chart_spec/specs/Executing.antt; what a caller can rely on is said in room_spec/proofs/Onward.antt.
+// Executing an action (01, "How a log is executed"): its occurrences in a chart, from left to right, and the follow-up
+// of one of them, built in the room above the places in use. Follow-ups are defined in chart_spec/specs/Executing.antt;
+// room_spec/proofs/Onward.antt says what a caller can rely on.
 ghost use mathlib.Core.Path.{_≡_};
 ghost use Prim.Native.Nat.{_<_};
 ghost use lib.Dec.{eqb};
@@ -27,7 +27,7 @@ fn is(node: Node, action: Action) -> bool
     action.receives == (node.kind == Node::RECEPTION)
 }
 
-// An action's own occurrence: it becomes empty.
+// The occurrence at an action itself: it becomes empty.
 fn on_action(room: &mut [u32], node: Node, action: Action, k: u32, used: u32) -> Executed
     requires { ⌜ Table (now room) used ⌝ }
     ensures { λ r.
@@ -42,8 +42,8 @@ fn on_action(room: &mut [u32], node: Node, action: Action, k: u32, used: u32) ->
     Executed::Missing(k)
 }
 
-// Occurrence k of an action from left to right, counted from 0, executed: its follow-up above the places in use; or how
-// many occurrences are still to be passed over.
+// Executes occurrence k of an action, counted from 0 from left to right. The answer is its follow-up, built above the
+// places in use; or how many occurrences are still to be passed over.
 pub fn execute(room: &mut [u32], place: u32, action: Action, k: u32, used: u32) -> Executed
     requires { ⌜ Table (now room) used × Rooted (now room) place × place < used ⌝ }
     ensures { λ r.

@@ -1,5 +1,6 @@
--- What a caller has after laying: where the whole chart was laid its places are a table, the card's chart stands at its
--- root, and as many places are in use as the chart has nodes; and it is laid exactly if they do not exceed the room.
+-- What a caller can rely on after laying: if the whole chart was laid, its places are a table, the card's chart stands
+-- at its root, and as many places are in use as the chart has nodes. It is laid exactly if these do not exceed the
+-- room.
 -- Assumes nothing.
 use Prim.Native.Nat.{ℕ, _-_, _<_, _≤_}
 use mathlib.Core.Bool.{Bool, true, false, cond}
@@ -39,12 +40,12 @@ too-little-if-it-exceeds : (b : Bool) (there : Root) → TooLittle ≡ cond b To
 too-little-if-it-exceeds true there e = refl
 too-little-if-it-exceeds false there e = absurd (subst IsWhole (sym e) tt)
 
--- As many places as the chart has nodes.
+-- Laying takes as many places as the chart has nodes.
 pub taken-by-the-chart : (card : List ℕ) → Sound card → taken card ≡ size (cardChart card)
 taken-by-the-chart card sound =
     sym (as-many-nodes (nodesOf card) (sound→faultless card sound) (sound→once card sound))
 
--- Too little room is told only of a chart that exceeds it.
+-- The answer is too little room only if the chart exceeds the room.
 pub too-little-exceeds : (card room : List ℕ) → Sound card → TooLittle ≡ laying card room
     → length room < size (cardChart card)
 too-little-exceeds card room sound told =

@@ -1,5 +1,5 @@
--- A sound card's nodes have room in a place each, so that what is laid into a room is the card's row of nodes, and the
--- chart at its root is the card's chart.
+-- Each node of a sound card fits into a place. So what is laid into a room is the card's row of nodes, and the chart at
+-- its root is the card's chart.
 -- Assumes nothing.
 use Prim.Native.Nat.{ℕ, zero, suc, _+_, _-_, _<_, _≤_}
 use mathlib.Core.Bool.{true}
@@ -38,7 +38,7 @@ use Rattle.room_lay.specs.Rooms.{placed, taken, laying, laidIn}
 fits : (n : Node) → Known (kindOf (n .kind)) → n .a < 16384 → n .b < 16384 → Fitting n
 fits n known a b = record { kind = omega (arith, known-kinds (n .kind) known); a = a; b = b }
 
--- A node that is in order has room in a place.
+-- A node that is in order fits into a place.
 in-order-fits :
     (k : Kind) (lifelines messages i : ℕ) (n : Node) → kindOf (n .kind) ≡ k → lifelines ≤ 16 → messages ≤ 64 → i ≤ 255
     → inOrderAs k lifelines messages i n ≡ true → Fitting n
@@ -57,7 +57,7 @@ in-order-fits (loops k) lifelines messages i n e few-l few-m few h =
     fits n (subst Known (sym e) tt) (omega (arith, ltb-true (n .a) i a)) (omega (arith, eqb-true (n .b) 0 b))
 in-order-fits unknown lifelines messages i n e few-l few-m few h = absurd (subst T (sym h) tt)
 
--- The first n nodes in the room: n nodes, and as many numbers as before.
+-- The first n nodes in the room are n numbers, and the room is as long as before.
 row-words : (nodes : List ℕ) (n : ℕ) → length (map wordOf (rowTo nodes n)) ≡ n
 row-words nodes n = length-map (rowTo nodes n) wordOf ∙ length-row nodes n
 
@@ -123,7 +123,7 @@ module _ (card : List ℕ) (sound : Sound card) where
               (sound→faultless card sound .lower p (omega arith));
         }
 
-  -- The row of the card's nodes is what is read back.
+  -- The places are read back as the row of the card's nodes.
   row-read-back : (n : ℕ) → n ≤ taken card → map nodeOf (map wordOf (rowTo nodes n)) ≡ rowTo nodes n
   row-read-back zero h = refl
   row-read-back (suc n) h =
@@ -145,7 +145,7 @@ module _ (card : List ℕ) (sound : Sound card) where
       ∙ charts-keep row (nodesIn rest) (taken card - 1) (omega (arith, sound→faultless card sound .some))
       ∙ ap (λ m. getD (charts row) (m - 1) empty) (sym long)
 
--- Too little room, and the whole chart.
+-- The two answers: too little room, and the whole chart.
 pub too-little :
     (card room : List ℕ) → length room < taken card → (TooLittle ≡ laying card room) × (room ≡ laidIn card room)
 too-little card room h =

@@ -1,5 +1,5 @@
--- Working definitions, which nobody has to believe: a card's chart laid into a room, one place a node, in the card's
--- own order (01, How a log is executed, Places).
+-- Working definitions, which nobody has to believe: a card's chart laid into a room, one place for each node, in the
+-- card's own order (01, How a log is executed, Places).
 -- Assumes nothing.
 use Prim.Native.Nat.{ℕ, _-_}
 use mathlib.Core.Bool.{Bool, cond}
@@ -26,7 +26,7 @@ taken card = countOf (nodesOf card)
 abbrev pub exceeds : List ℕ → List ℕ → Bool
 exceeds card room = ltb (length room) (taken card)
 
--- What laying answers: the root in the last of the places that the chart takes, unless the chart exceeds the room.
+-- What laying returns: the root in the last of the places that the chart takes, unless the chart exceeds the room.
 abbrev pub laying : List ℕ → List ℕ → Laid
 laying card room = cond (exceeds card room) TooLittle (Whole (record { place = taken card - 1; used = taken card }))
 
@@ -34,8 +34,8 @@ laying card room = cond (exceeds card room) TooLittle (Whole (record { place = t
 abbrev pub laidIn : List ℕ → List ℕ → List ℕ
 laidIn card room = cond (exceeds card room) room (placed (nodesOf card) (taken card) room)
 
--- What is found by laying: "10 | the chart .. exceeds the usable room | 0" (01, Verdicts and numbers given). It decides
--- what is returned; unlike with 1 to 8, the usable room is zeroed all the same.
+-- What laying finds: "10 | the chart .. exceeds the usable room | 0" (01, Verdicts and numbers given). It decides what
+-- is returned; but unlike with 1 to 8, the usable room is zeroed.
 abbrev pub findingOf : Laid → Finding
 findingOf (Whole root) = Fine
 findingOf TooLittle = Refused 10 0

@@ -1,5 +1,6 @@
-// Laying a card's chart into a room: one place a node, in the card's own order (01, "How a log is executed", Places).
-// The chart of a card is defined in card_spec/specs/Nodes.antt, what stands in a room in room_spec/specs/Room.antt.
+// Laying a card's chart into a room: one place for each node, in the card's own order (01, "How a log is executed",
+// Places). The chart of a card is defined in card_spec/specs/Nodes.antt, what stands in a room in
+// room_spec/specs/Room.antt.
 ghost use mathlib.Core.Path.{_≡_};
 ghost use Prim.Native.Nat.{_≤_};
 ghost use lib.ListN.{length};
@@ -8,13 +9,13 @@ ghost use Rattle.room_lay.specs.Rooms.{taken, laying, laidIn};
 ghost use Rattle.room_lay.specs.declared.Laid.the-variants.{Whole};
 use room_spec::Root;
 
-// What laying answers: the whole chart, or that it exceeds the room.
+// What laying returns: the whole chart, or that it exceeds the room.
 pub enum Laid {
     Whole(Root),
     TooLittle,
 }
 
-// The chart of a sound card in the first places of a room that has as many.
+// Lays the chart of a sound card into the first places of a room that has enough of them.
 pub fn lay_whole(card: &[u8], room: &mut [u32]) -> Root
     requires { ⌜ Sound (now card) × taken (now card) ≤ length (now room) × length (now room) ≤ 16384 ⌝ }
     ensures { λ r.
@@ -33,7 +34,7 @@ pub fn lay_whole(card: &[u8], room: &mut [u32]) -> Root
     root
 }
 
-// The chart of a sound card in the first places of a room. Too little room is seen before anything is written.
+// Lays the chart of a sound card into the first places of a room. If the room is too little, nothing is written.
 pub fn lay(card: &[u8], room: &mut [u32]) -> Laid
     requires { ⌜ Sound (now card) × length (now room) ≤ 16384 ⌝ }
     ensures { λ r.

@@ -1,5 +1,5 @@
--- Executing in a loop: the round that was begun, before the loop itself; and of a weak loop, before both, the loop
--- pruned.
+-- Executing in a loop: the round that was begun, and the loop itself after it; for a weak loop, the pruned loop before
+-- both.
 -- Assumes nothing.
 use Prim.Native.Nat.{ℕ, _<_, _≤_}
 use mathlib.Core.List.{List}
@@ -57,7 +57,7 @@ module _ (room : List ℕ) (place kind : ℕ) (x : Root) (l : Loop) (b : Chart) 
   abbrev round : List ℕ
   round = added room (x .used) (record { kind = orderBetween kind; a = x .place; b = place })
 
-  -- The round that was begun, before the loop itself.
+  -- The round that was begun, and the loop itself after it.
   pub round-begun : Carries room x (begun l b) round (rootAt room (x .used))
   round-begun before used m start built =
       subst (λ c. Builds before used (newPair (between l) m (kept c)) round (rootAt room (x .used))) here
@@ -69,7 +69,7 @@ module _ (room : List ℕ) (place kind : ℕ) (x : Root) (l : Loop) (b : Chart) 
       subst (λ n. Builds before used n round (rootAt room (x .used))) (sym (no-weak-loop kind l b d m is other))
       (round-begun before used m start built)
 
-  -- The weak loop, pruned, before both.
+  -- For a weak loop, the pruned loop before both.
   pub round-of-a-weak-loop :
       (d : ℕ) → kind ≡ 9 → (after : List ℕ) (front : Root)
       → Builds round (rootAt room (x .used) .used) (prune (loop l b) d) after front
@@ -87,7 +87,7 @@ module _ (room : List ℕ) (place kind : ℕ) (x : Root) (l : Loop) (b : Chart) 
           → afterRound k b d m ≡ newPair seq (prune (loop k b) d) (begun k b m)
       by k e {m} = rw e
 
--- At a place, with a part x that its body became.
+-- The loop at a place, when its body has become the part x.
 module _ (r : Reading) (d : ℕ) (x : Root) (held : Held (r .room) x) (below : r .place < x .used) where
   abbrev room : List ℕ
   room = r .room

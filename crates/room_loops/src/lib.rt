@@ -24,8 +24,8 @@ fn between_rounds(kind: u32) -> u32
     }
 }
 
-// A loop at that place whose body becomes x: the round that was begun, and then the loop. A weak loop, pruned, also
-// goes before them.
+// The loop at this place, when its body becomes x: the round that was begun, and then the loop. For a weak loop, the
+// pruned loop comes before both.
 pub fn after_round(room: &mut [u32], place: u32, lifeline: u32, x: Root) -> Root
     requires { ⌜ Held (now room) x × Rooted (now room) place × place < x .used ⌝ }
     ensures { λ r.

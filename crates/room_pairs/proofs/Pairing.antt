@@ -30,7 +30,7 @@ use Rattle.room_spec.specs.Passing.{Carries, Turns, Beside}
 use Rattle.room_pairs.specs.Beside.{besideRight, besideLeft, noneOf}
 use Rattle.room_spec.proofs.Answering.{answer-keeps, changed-follow-up, changed-missing, none-to-follow}
 
--- The follow-ups of a pair are those of its left side, and then those that come of its right side's.
+-- The follow-ups of a pair are those that come from its left side, and then those that come from its right side.
 pub follows-of-a-pair :
     (q : Pair) (l r : Chart) (a : Action)
     → follows (paired q l r) a ≡ map (besideRight q r) (follows l a) ++ besideLeft q l (a .line) (follows r a)
@@ -38,7 +38,7 @@ unfolding follows
 follows-of-a-pair (composed o) l r a = refl
 follows-of-a-pair choice l r a = ap (λ xs. xs ++ follows r a) (sym (map-id (follows l a)))
 
--- Of an alt the left side's follow-up alone remains; in any other pair the side is replaced.
+-- In an alt the left side's follow-up alone remains; in any other pair it replaces the side.
 pub left-alone :
     (room : List ℕ) (kind place : ℕ) (x : Root) (q : Pair) → kindOf kind ≡ pairs q → kind ≡ 6
     → Carries room x (besideRight q (chartIn room place)) room x
@@ -71,7 +71,7 @@ module _ (room : List ℕ) (k d : ℕ) (right : Executed) (l : Chart) where
   seq-blocks e before used xs start on-right =
       rw e (none-to-follow before used k room (answer-keeps before used xs k room right on-right))
 
--- No follow-up on the right, and the left lets pass.
+-- No follow-up on the right, and the left lets the action pass.
 pub seq-none-yet :
     (room : List ℕ) (k d more : ℕ) (l : Chart) → evades l d ≡ true
     → Turns room k (Missing more) (onRight seq l d) room (Missing more)
@@ -91,7 +91,7 @@ module _ (room : List ℕ) (k d : ℕ) (x : Root) (l : Chart) (after : List ℕ)
       rw e (none-to-follow before used k after
       (kept-then used (x .used) before room after (builds-more b (start .counted)) (b .kept) keeps))
 
-  -- "The left is pruned by d": the pruned left is built after the follow-up, and a seq of both.
+  -- "The left is pruned by d": the pruned left is built after the follow-up, and then a seq of both.
   pub seq-passed :
       (kind : ℕ) (front : Root) → kindOf kind ≡ pairs (composed seq) → evades l d ≡ true
       → Builds room (x .used) (prune l d) after front
@@ -115,7 +115,7 @@ par-replaced room k d kind place x is table below before used xs start (h, b) =
     (pair-builds-backward b (composed par) kind (start .counted) is
     (kept-builds room (x .used) place table (λ h. below)))
 
--- No occurrence on the right: then there is no follow-up either, whatever the left allows.
+-- If there is no occurrence on the right, there is no follow-up either, whatever the left allows.
 either-way : (b : Bool) → _≡_ {A = List Made} (cond b [] []) []
 either-way true = refl
 either-way false = refl
@@ -155,7 +155,7 @@ module _ (room : List ℕ) (kind k d : ℕ) (right : Executed) (l : Chart) (afte
   pub in-an-alt : kind ≢ 3 → kind ≢ 4 → kind ≢ 5 → Turned choice → Turned q
   in-an-alt three four five = subst Turned (else-the-choice kind q is three four five)
 
--- What an answer leaves to stand beside it.
+-- After an answer, a part that was in use stands beside the follow-up.
 pub stands-beside :
     (before : List ℕ) (used place : ℕ) (xs : List Made) (k : ℕ) (after : List ℕ) (e : Executed) → Table before used
     → place < used → Follows before used xs k after e → Beside after place e

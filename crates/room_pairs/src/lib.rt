@@ -14,7 +14,7 @@ use room_spec::Executed;
 use room_spec::Pruned;
 use room_spec::Root;
 
-// The left side of a pair becomes x. In an alt it alone remains, in any other pair the side is replaced.
+// The left side of a pair becomes x. In an alt only x remains; in any other pair x replaces the left side.
 pub fn on_left(room: &mut [u32], node: Node, x: Root) -> Root
     requires { ⌜ Table (now room) (x .used) × node .b < x .used ⌝ }
     ensures { λ r.
@@ -29,7 +29,7 @@ pub fn on_left(room: &mut [u32], node: Node, x: Root) -> Root
     room_places::add(room, kind, x.place, node.b, x.used)
 }
 
-// The right side of a strict: only if the left terminates, and the right's follow-up alone remains.
+// The right side of a strict: it acts only if the left terminates, and then its follow-up alone remains.
 fn right_of_strict(room: &[u32], left: u32, k: u32, right: Executed) -> Executed
     requires { ⌜ Rooted (now room) left ⌝ }
     ensures { λ r.
@@ -44,8 +44,8 @@ fn right_of_strict(room: &[u32], left: u32, k: u32, right: Executed) -> Executed
     }
 }
 
-// The right side of a seq: only if the left evades the lifeline, and the left is pruned by it. With no pruned part the
-// occurrence is passed over.
+// The right side of a seq: it acts only if the left evades the lifeline, and then the left is pruned by it. If pruning
+// leaves nothing, the occurrences on the right do not count.
 fn right_of_seq(room: &mut [u32], left: u32, lifeline: u32, k: u32, right: Executed) -> Executed
     requires { ⌜ Rooted (now room) left × Beside (now room) left right ⌝ }
     ensures { λ r.
@@ -65,7 +65,7 @@ fn right_of_seq(room: &mut [u32], left: u32, lifeline: u32, k: u32, right: Execu
     Executed::FollowUp(room_places::add(room, Node::SEQ, part.place, x.place, part.used))
 }
 
-// The right side of a par is replaced.
+// The right side of a par: its follow-up replaces it.
 fn right_of_par(room: &mut [u32], left: u32, right: Executed) -> Executed
     requires { ⌜ Beside (now room) left right ⌝ }
     ensures { λ r.
@@ -79,7 +79,7 @@ fn right_of_par(room: &mut [u32], left: u32, right: Executed) -> Executed
     Executed::FollowUp(room_places::add(room, Node::PAR, left, x.place, x.used))
 }
 
-// Whether an answer says that there is no occurrence at all, so many having been to be passed over.
+// Whether an answer says that there is no occurrence at all: k were to be passed over, and k still are.
 fn is_none(answer: Executed, k: u32) -> bool
     ensures { λ r. ⌜ r ≡ noneOf answer k ⌝ }
 {
@@ -89,8 +89,8 @@ fn is_none(answer: Executed, k: u32) -> bool
     more == k
 }
 
-// The right side of a pair, by its kind. In an alt the right's follow-up alone remains. With no occurrence on the right
-// the left is not asked.
+// The answer for a pair, from the answer for its right side and by the kind of the pair. In an alt the right's
+// follow-up alone remains. If there is no occurrence on the right, the left is not asked.
 pub fn on_right(room: &mut [u32], node: Node, lifeline: u32, k: u32, right: Executed) -> Executed
     requires { ⌜ Rooted (now room) (node .a) × Beside (now room) (node .a) right ⌝ }
     ensures { λ r.

@@ -1,5 +1,5 @@
-// Places of a room, read, written and cleared. These functions alone touch a room's numbers. How a node stands in a
-// place is defined in node/specs/Place.antt.
+// Reading, writing and clearing the places of a room. Only these functions touch a room's numbers. How a node stands in
+// a place is defined in node/specs/Place.antt.
 ghost use mathlib.Core.Path.{_≡_};
 ghost use Prim.Native.Nat.{_<_};
 ghost use lib.ListN.{length, replicate};
@@ -17,7 +17,7 @@ pub fn read(room: &[u32], place: u32) -> Node
     Node::unpack(room[at])
 }
 
-// A node more, in the first place that is not in use. A room that is full stays as it is, and is counted as exceeded.
+// Adds a node in the first place that is not in use. A full room stays as it is, and is counted as exceeded.
 pub fn add(room: &mut [u32], kind: u32, a: u32, b: u32, used: u32) -> Root
     requires { ⌜ Table (now room) used ⌝ }
     ensures { λ r.
@@ -43,7 +43,7 @@ pub fn add(room: &mut [u32], kind: u32, a: u32, b: u32, used: u32) -> Root
     }
 }
 
-// Every number zero.
+// Sets every number to zero.
 pub fn clear(room: &mut [u32])
     ensures { λ r. ⌜ now (room .exit) ≡ replicate (length (now (room .entry))) 0 ⌝ }
 {

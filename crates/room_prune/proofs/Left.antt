@@ -1,5 +1,5 @@
 -- What is left of a pair and of a loop is what pruning leaves, by cases on what is left of their parts: the chart, and
--- what it costs. A side that was pruned and is not wanted leaves only numbers above the places in use.
+-- what it costs. A side that was pruned but is not needed leaves only numbers above the places in use.
 -- Assumes nothing.
 use Prim.Native.Nat.{ℕ, _<_, _≤_}
 use mathlib.Core.Bool.{true, false, not}
@@ -88,8 +88,8 @@ empty-pruned room used place d table below e =
     leaf-pruned room used place d table below (ap (λ c. evades c d) e)
     (ap (λ c. prune c d) e ∙ ap kept (sym e))
 
--- Sides that are left, and sides of which nothing is left. With nothing left of the left side the right one is pruned
--- from the same places on.
+-- Sides of which something is left, and sides of which nothing is. If nothing is left of the left side, the right side
+-- is pruned above the same places in use.
 module _ (before middle : List ℕ) (used d : ℕ) (l r : Chart) (table : Table before used) where
   pub order-lost : (o : Order) → Prunes before used l d middle Nothing
       → Prunes before used (pair o l r) d middle Nothing
@@ -142,7 +142,7 @@ loop-pruned before room used d b k kind table e Nothing (be, keeps) =
     rw be
     (kept-then-builds (table .counted) keeps (empty-builds room used (kept-table used before room keeps table)))
 
--- At a place, by the ranges of kinds over which the code decides.
+-- At a place, by the ranges of kinds that the code tests.
 module _ (work : Working) (d : ℕ) where
   abbrev r : Reading
   r = work .reading
@@ -226,7 +226,7 @@ module _ (work : Working) (d : ℕ) where
           on-left
           (rw same at on-right))
 
-    -- The left side is left, and the right one is pruned above it.
+    -- Something is left of the left side, and the right side is pruned above it.
     module _ (middle : List ℕ) (left : Root)
         (on-left : Prunes before used (chartIn before (n .a)) d middle (Part left)) where
       above-left : used ≤ left .used

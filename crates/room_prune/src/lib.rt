@@ -9,8 +9,8 @@ use node::Node;
 use room_spec::Pruned;
 use room_spec::Root;
 
-// What is left of a pair whose left side is left over, by what is left of its right side: of an alt either side, of any
-// other pair both or nothing.
+// What is left of a pair whose pruned left side is `left`, given what is left of its right side: an alt keeps both
+// sides or only the left one; of any other pair both are left, or nothing.
 fn pair_of(room: &mut [u32], kind: u32, left: Root, right: Pruned) -> Pruned
     requires { ⌜ Table (now room) (above right 0) ⌝ }
     ensures { λ r.
@@ -26,7 +26,7 @@ fn pair_of(room: &mut [u32], kind: u32, left: Root, right: Pruned) -> Pruned
     Pruned::Part(room_places::add(room, kind, left.place, part.place, part.used))
 }
 
-// What is left of a loop, by what is left of its body: a loop of that, or an empty.
+// What is left of a loop, given what is left of its body: a loop of that, or an empty.
 pub fn loop_of(room: &mut [u32], kind: u32, body: Pruned, used: u32) -> Root
     requires { ⌜ Table (now room) (above body used) ⌝ }
     ensures { λ r.
@@ -38,7 +38,7 @@ pub fn loop_of(room: &mut [u32], kind: u32, body: Pruned, used: u32) -> Root
     room_places::add(room, kind, root.place, 0, root.used)
 }
 
-// A part pruned by a lifeline, its new nodes placed from `used` on; nothing if it does not evade the lifeline.
+// Prunes a part by a lifeline and puts its new nodes from `used` on; nothing is left if it does not evade the lifeline.
 pub fn prune(room: &mut [u32], place: u32, lifeline: u32, used: u32) -> Pruned
     requires { ⌜ Table (now room) used × Rooted (now room) place × place < used ⌝ }
     ensures { λ r.

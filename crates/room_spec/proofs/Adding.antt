@@ -1,6 +1,6 @@
--- What is built by adding nodes: one node more, whose parts stand at lower places, is one place more, and its chart
--- stands there; a pair, a loop and an empty are cases of it. Where the room is exceeded nothing is written, and the
--- count stays one above the room's length.
+-- What is built by adding nodes: one more node, whose parts stand at lower places, takes one more place, and its chart
+-- stands there; a pair, a loop and an empty are cases of it. If the room is exceeded, nothing is written, and the count
+-- stays one above the room's length.
 -- Assumes nothing.
 use Prim.Native.Nat.{ℕ, suc, _+_, _<_, _≤_}
 use mathlib.Core.List.{List}
@@ -73,7 +73,7 @@ added-table room used n table ok =
         let l : p < used = omega arith in
         kept-table used room (added room used n) (adding-keeps room used n) table .lower p l inside
 
--- A node is added to what was built so far, of which it is the root: the part costs one place more.
+-- A node is added to what was built so far and becomes its root: the part costs one place more.
 adds :
     (before : List ℕ) (start cost : ℕ) (room : List ℕ) (used : ℕ) (n : Node) (part : Made)
     → Kept start before room → start ≤ used → Table room used → used ≡ counted (length before) (start + cost)
@@ -119,7 +119,7 @@ newPaired-chart choice m n = refl
 
 module _ {before : List ℕ} {start : ℕ} {m : Made} {middle : List ℕ} {left : Root}
     (ml : Builds before start m middle left) where
-  -- Places in use do not grow fewer.
+  -- The places in use do not get fewer.
   pub builds-more : start ≤ suc (length before) → start ≤ left .used
   builds-more h = omega (arith, ml .cost)
 
@@ -229,7 +229,7 @@ root-beyond room used h =
 pub nothing-added : (room : List ℕ) (used : ℕ) (n : Node) → length room ≤ used → added room used n ≡ room
 nothing-added room used n h = set-out room used (wordOf n) h
 
--- What was built stays built where its places are kept, and where the places below it were kept before.
+-- What was built stays built if its places are kept afterwards, or if the places below it were kept before.
 pub builds-kept :
     {before middle room : List ℕ} {used : ℕ} {m : Made} {root : Root} → Builds before used m middle root
     → used ≤ root .used → Kept (root .used) middle room → Builds before used m room root

@@ -1,4 +1,4 @@
--- Answers for some follow-ups, carried over to others: to the same ones changed, to some of two lists, and to none.
+-- An answer for some follow-ups, carried over to others: to the same ones changed, to two lists appended, and to none.
 -- Assumes nothing.
 use Prim.Native.Nat.{ℕ, zero, suc, _+_, _<_, _≤_}
 use mathlib.Core.List.{List, [], _∷_, _++_, map}
@@ -16,7 +16,7 @@ use Rattle.room_spec.specs.Building.{Builds, Follows}
 use Rattle.room_spec.proofs.Standing.{kept-then}
 use Rattle.room_spec.proofs.Adding.{kept-then-builds}
 
--- Inside a list the default is not met.
+-- Inside a list the default does not matter.
 default-not-met : (xs : List Made) (k : ℕ) (d e : Made) → k < length xs → getD xs k d ≡ getD xs k e
 default-not-met [] k d e h = absurd (omega arith)
 default-not-met (x ∷ xs) zero d e h = refl
@@ -34,7 +34,7 @@ module _ (before : List ℕ) (used : ℕ) (xs : List Made) (k : ℕ) where
   answer-keeps after (FollowUp root) (h, b) = b .kept
   answer-keeps after (Missing more) (h, keeps) = keeps
 
-  -- All changed alike.
+  -- All follow-ups are changed in the same way.
   pub changed-follow-up :
       (f : Made → Made) (after : List ℕ) (root : Root) → k < length xs
       → Builds before used (f (getD xs k newEmpty)) after root
@@ -47,7 +47,7 @@ module _ (before : List ℕ) (used : ℕ) (xs : List Made) (k : ℕ) where
       → Follows before used (map f xs) k after (Missing more)
   changed-missing f after more (e, keeps) = (omega (arith, length-map xs f), keeps)
 
-  -- In the first of two lists, and else in the second.
+  -- In the first of two lists, or else in the second.
   pub in-the-first :
       (ys : List Made) (after : List ℕ) (root : Root) → Follows before used xs k after (FollowUp root)
       → Follows before used (xs ++ ys) k after (FollowUp root)
@@ -71,7 +71,7 @@ module _ (before : List ℕ) (used : ℕ) (xs : List Made) (k : ℕ) where
     kept-then used used before middle after (omega arith) keeps keeps-on,
   )
 
--- Where there is no follow-up, all are still to be passed over.
+-- If there is no follow-up, all k are still to be passed over.
 pub none-to-follow :
     (before : List ℕ) (used k : ℕ) (after : List ℕ) → Kept used before after
     → Follows before used [] k after (Missing k)

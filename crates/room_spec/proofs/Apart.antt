@@ -1,5 +1,5 @@
--- What stands at a place, taken apart by the ranges of kinds over which code decides: its chart, and that its parts
--- stand at lower places.
+-- What stands at a place, taken apart by the ranges of kinds that the code tests: its chart, and that its parts stand
+-- at lower places.
 -- Assumes nothing.
 use Prim.Native.Nat.{ℕ, suc, _≤_, _<_}
 use mathlib.Core.Bool.{Bool}
@@ -27,13 +27,13 @@ use Rattle.node_spec.proofs.Ranges.{
 use Rattle.room_spec.specs.Room.{nodesIn, nodeIn, chartIn, Table, Rooted, Kept}
 use Rattle.room_spec.proofs.Standing.{chart-at, kept-table, table-less}
 
--- Everything in a table has its root there.
+-- Every place of a table is the root of a part.
 pub table-rooted :
     (room : List ℕ) (used place : ℕ) → Table room used → place < used → place < length room → Rooted room place
 table-rooted room used place table h inside =
     record { inside = inside; table = table-less room used (suc place) (omega arith) table }
 
--- What is kept keeps its roots.
+-- A root in the places that are kept stays a root.
 pub kept-rooted :
     (used : ℕ) (before after : List ℕ) (place : ℕ) → Kept used before after → Table before used → Rooted before place
     → place < used → Rooted after place
@@ -115,7 +115,7 @@ module _ (r : Reading) where
   pub unknown-here : 11 ≤ n .kind → chartIn room place ≡ empty
   unknown-here k = chart-as unknown (above-ten-is-unknown (n .kind) k)
 
-  -- The parts of a pair and of a loop stand lower.
+  -- The parts of a pair and of a loop stand at lower places.
   pub left-lower : 3 ≤ n .kind → n .kind ≤ 6 → (n .a < place) × Rooted room (n .a)
   left-lower low high =
       let (a, rest) = rw (children-of-a-pair n low high) at lower in

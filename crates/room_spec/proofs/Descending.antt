@@ -1,6 +1,6 @@
--- A question that is asked of a chart by descending it: empty and loops say yes, an alt asks whether either side does,
--- any other pair whether both do. Terminating is such a question, and so is evading a lifeline. What is answered at a
--- place comes from the answers at its parts, and the right one is asked only where the left does not decide.
+-- A question that is answered by descending a chart: empty and loops say yes, an alt if either side does, any other
+-- pair if both do. Terminating is such a question, and so is evading a lifeline. The answer at a place comes from the
+-- answers at its parts, and the right part is asked only if the left does not decide.
 -- Assumes nothing.
 use Prim.Native.Nat.{ℕ, _≤_}
 use mathlib.Core.Bool.{Bool, true, false, _&&_, _||_}

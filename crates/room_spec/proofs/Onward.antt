@@ -1,5 +1,5 @@
--- What a caller has after an answer. What was in use stands as before; a follow-up that did not exceed the room is a
--- table of its own with its chart at its root, and the places in use have grown by its cost; and it exceeds the room
+-- What a caller can rely on after an answer. What was in use stands as before. A follow-up that did not exceed the room
+-- has its root and its chart at its place, and the places in use have grown by its cost; and it exceeds the room
 -- exactly if that many places do.
 -- Assumes nothing.
 use Prim.Native.Nat.{ℕ, _+_, _<_, _≤_}

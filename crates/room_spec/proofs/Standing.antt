@@ -1,5 +1,5 @@
 -- What stands in a room: the chart at a place is the chart of its node, and what is kept keeps its charts. Both come
--- from the laws of rows: what stands at a place is told by the nodes up to it.
+-- from the laws of rows: what stands at a place depends only on the nodes up to it.
 -- Assumes nothing.
 use Prim.Native.Nat.{ℕ, _+_, _<_, _≤_}
 use mathlib.Core.List.{List, _++_, map-append}
@@ -22,7 +22,7 @@ chart-at room p h low =
     let inside : p < length (nodesIn room) = omega (arith, length-map room nodeOf) in
     charts-at (nodesIn room) p (nodeOf 0) inside (rw same low) ∙ ap (stands (charts (nodesIn room))) same
 
--- The charts of the first places alone.
+-- The charts of the first places depend on these places alone.
 chart-of-the-first :
     (room : List ℕ) (used p : ℕ) → p < used → p < length room → chartIn room p ≡ chartIn (take used room) p
 chart-of-the-first room used p h inside =
@@ -56,7 +56,7 @@ module _ (used : ℕ) (before after : List ℕ) (kept : Kept used before after) 
 pub kept-self : (used : ℕ) (room : List ℕ) → Kept used room room
 kept-self used room = record { long = refl; same = refl }
 
--- What is kept in more places and then in fewer is kept in the fewer.
+-- What is kept first in fewer places and then in more is kept in the fewer.
 pub kept-then :
     (used more : ℕ) (before between after : List ℕ) → used ≤ more → Kept used before between → Kept more between after
     → Kept used before after

@@ -1,5 +1,5 @@
--- Working definitions, which nobody has to believe: what it means that code makes more of a part, or of an answer,
--- that is already there.
+-- Working definitions, which nobody has to believe: what it means that the code makes something more of a part, or of
+-- an answer, that is already there.
 -- Assumes nothing.
 use Prim.Native.Nat.{ℕ, _<_}
 use mathlib.Core.List.{List}
@@ -10,19 +10,19 @@ use Rattle.room_spec.specs.declared.Executed.the-variants.{FollowUp, Mis
 use Rattle.room_spec.specs.Room.{Table}
 use Rattle.room_spec.specs.Building.{Builds, Follows}
 
--- Whatever part was built before, another was made of it.
+-- Whichever part m was built before, f m is built now.
 abbrev pub Carries : List ℕ → Root → (Made → Made) → List ℕ → Root → Type 0
 Carries room x f after y =
     (before : List ℕ) (used : ℕ) (m : Made) → Table before used → Builds before used m room x
     → Builds before used (f m) after y
 
--- Whatever follow-ups were answered for, the answer is now for others.
+-- Whichever follow-ups xs the answer `right` was for, the new answer is for f xs.
 abbrev pub Turns : List ℕ → ℕ → Executed → (List Made → List Made) → List ℕ → Executed → Type 0
 Turns room k right f after answer =
     (before : List ℕ) (used : ℕ) (xs : List Made) → Table before used → Follows before used xs k room right
     → Follows before used (f xs) k after answer
 
--- A part at that place stands beside the follow-up, if there is one.
+-- If there is a follow-up, the part at this place is among the places in use with it.
 abbrev pub Beside : List ℕ → ℕ → Executed → Type 0
 Beside room place (FollowUp x) = Table room (x .used) × place < x .used
 Beside room place (Missing more) = Unit

@@ -23,14 +23,14 @@ nodeIn room place = nodeOf (getD room place 0)
 abbrev pub chartIn : List ℕ → ℕ → Chart
 chartIn room place = getD (charts (nodesIn room)) place empty
 
--- The first `used` places are in use, of at most 16,384 usable ones (01, How a log is executed): no more than there
--- are, or one more where the room was exceeded. Each node in them has its parts at lower places.
+-- The first `used` places are in use, of at most 16,384 usable ones (01, How a log is executed): no more than the room
+-- has, or one more if the room was exceeded. Each node in them has its parts at lower places.
 pub record Table (room : List ℕ) (used : ℕ) : Type 0 where
   pub usable : length room ≤ 16384
   pub counted : used ≤ suc (length room)
   pub lower : (p : ℕ) → p < used → p < length room → Below p (children (nodeIn room p))
 
--- A part has its root at that place: it and every node before it have their parts at lower places.
+-- A part has its root at this place: it and every node before it have their parts at lower places.
 pub record Rooted (room : List ℕ) (place : ℕ) : Type 0 where
   pub inside : place < length room
   pub table : Table room (suc place)

@@ -1,5 +1,5 @@
-// What stands in a room, and what is answered of it: the types of it. What the numbers of a room mean is said in
-// specs/Room.antt, what the answers mean in specs/Building.antt. The code is in the other crates `room_..`.
+// The types of what stands in a room and of the answers about it. specs/Room.antt says what the numbers of a room mean,
+// specs/Building.antt what the answers mean. The code is in the other crates `room_..`.
 
 // An action of a log.
 pub struct Action {
@@ -8,20 +8,20 @@ pub struct Action {
     pub message: u32,
 }
 
-// A part in the room: the place of its root, and how many places are in use with it. Where that is more than the room
-// has, it is one more than the room's length, and nothing stands at the place.
+// A part in the room: the place of its root, and how many places are in use with it. If that is more than the room has,
+// `used` is one more than the room's length, and nothing stands at the place.
 pub struct Root {
     pub place: u32,
     pub used: u32,
 }
 
-// What pruning answers: what is left of the part, or nothing if the part does not evade the lifeline.
+// What pruning returns: what is left of the part, or nothing if the part does not evade the lifeline.
 pub enum Pruned {
     Part(Root),
     Nothing,
 }
 
-// What executing an occurrence answers: the follow-up, or how many occurrences are still to be passed over.
+// What executing an occurrence returns: the follow-up, or how many occurrences are still to be passed over.
 pub enum Executed {
     FollowUp(Root),
     Missing(u32),

@@ -1,6 +1,6 @@
 // The search of a log in a chart (01, "How a log is executed"): depth first, occurrences of the next action from left
-// to right, under an allowance of steps and in a room of places. It is defined in chart_spec/specs/Lending.antt; that
-// the code goes this way is said in search_spec/specs/Ending.antt.
+// to right, under an allowance of steps and in a room of places. It is defined in chart_spec/specs/Lending.antt;
+// search_spec/specs/Ending.antt says what it means that the code does this.
 ghost use mathlib.Core.Bool.{cond};
 ghost use mathlib.Core.Path.{_≡_};
 ghost use Prim.Native.Nat.{_<_, _≤_};
@@ -31,8 +31,8 @@ fn at_end(room: &[u32], place: u32, left: u32, places: u32) -> Ended
     }
 }
 
-// One choice: its follow-up is x, which may exceed the room. Before it counts 9 is asked, then 10; then it is a step,
-// and the search goes on from it with the rest of the log.
+// One choice: its follow-up is x, which may exceed the room. First come the test for 9 and then the test for 10; if
+// both pass, the follow-up is a step, and the search goes on from it with the rest of the log.
 fn attempt(rest: &[u8], room: &mut [u32], x: Root, allowance: u32, places: u32) -> Ended
     requires { ⌜ Held (now room) x × length (now rest) ≤ 256 ⌝ }
     ensures { λ r.
@@ -56,8 +56,8 @@ fn attempt(rest: &[u8], room: &mut [u32], x: Root, allowance: u32, places: u32) 
     search(rest, room, x, allowance - 1, number::larger(places, x.used))
 }
 
-// The search of a log in the chart at a root. Each occurrence of its first action is a choice; the places of one that
-// failed are free again for the next.
+// The search of a log in the chart at a root. Each occurrence of its first action is a choice; the places of a failed
+// choice are free again for the next.
 pub fn search(log: &[u8], room: &mut [u32], root: Root, allowance: u32, places: u32) -> Ended
     requires { ⌜ Table (now room) (root .used) × Rooted (now room) (root .place) × root .place < root .used
         × length (now log) ≤ 256 ⌝ }

@@ -1,6 +1,7 @@
--- How the search goes from choice to choice. So far the choices up to number k have failed, and what the definition
--- finds is what it finds from number k on, with the deepest opening so far. There is no such choice, and every choice
--- has failed; or it is tried, and its ending is the search's, unless it failed: then it goes on with number k + 1.
+-- How the search goes from choice to choice. So far the choices before number k have failed, and the definition finds
+-- what it finds from number k on, with the deepest opening so far. Either there is no choice k, and every choice has
+-- failed; or choice k is tried. If it did not fail, its ending is the search's; if it failed, the search goes on with
+-- number k + 1.
 -- Assumes nothing.
 use Prim.Native.Nat.{ℕ, suc, _+_, _-_, max, _<_, _≤_}
 use mathlib.Core.Bool.{Bool, true, false, cond}
@@ -75,7 +76,7 @@ module _ (before : List ℕ) (a : chart.Action) (rest : Log) (root : Root) (allo
   abbrev pub onward : ℕ → ℕ → ℕ → ℕ → Ending
   onward all k s p = from all (length before) (goes all rest (length before)) (root .used) choices k s p
 
-  -- The choices up to number k have failed.
+  -- The choices before number k have failed.
   pub record SoFar (room : List ℕ) (deepest left most k : ℕ) : Type 0 where
     pub kept : Kept (root .used) before room
     pub taken : k + left ≤ allowance
@@ -110,7 +111,7 @@ pub record Task : Type 0 where
   pub rest : List ℕ
   pub starts : logOf log ≡ actionOf action ∷ logOf rest
 
--- What it has come to after the choices up to number k.
+-- How far the search has come after the choices before number k.
 abbrev pub Going : Task → List ℕ → ℕ → ℕ → ℕ → ℕ → Type 0
 Going w = SoFar (w .room) (actionOf (w .action)) (logOf (w .rest)) (w .root) (w .allowance) (w .places)
 
@@ -159,7 +160,7 @@ module _ (u : Turn) where
   abbrev wanted : List Made
   wanted = choices (w .room) a (logOf (w .rest)) (w .root) (w .allowance) (w .places)
 
-  -- What the search has to come to.
+  -- What the search has to ensure.
   abbrev Done : List ℕ → Ended → Type 0
   Done after r = Searches (w .room) (logOf (w .log)) (w .root) (w .allowance) (w .places) after r
 
@@ -253,7 +254,7 @@ module _ (u : Turn) where
             wanted k after x given (leb n s) s most
             ∙ ap (choice n s) (so-far .kept .long)
 
-        -- What the definition finds is that, or what the choices after it come to.
+        -- The definition finds the same ending, or, if the choice failed, the ending of the choices after it.
         found-alike : (steps : ℕ)
             → sought steps ≡ deepened deepest (orNext (endingOf (all steps) r) (next (all steps) (suc k)))
         found-alike steps =
@@ -265,7 +266,7 @@ module _ (u : Turn) where
             ∙ ap (λ e. orNext e (next (all steps) (suc k)))
             (sym (tried-alike (all steps) s (omega (arith, so-far .taken)))))
 
-        -- It did not fail: the search ends as it did.
+        -- The choice did not fail: the search ends as it did.
         pub choice-settles : Settled r → Done later r
         choice-settles settled =
             record {
@@ -275,7 +276,7 @@ module _ (u : Turn) where
                   settled-ends deepest (all steps) (next (all steps) (suc k)) r settled ∙ sym (found-alike steps);
             }
 
-      -- It failed: the search goes on with the next.
+      -- The choice failed: the search goes on with the next.
       pub choice-fails :
           (later : List ℕ) (beyond l p : ℕ) → Attempts after (logOf (w .rest)) x left most later (Failed beyond l p)
           → Going w later (max deepest (1 + beyond)) l p (k + 1)

@@ -1,5 +1,5 @@
--- One choice: what the code tries is what the definition tries. A follow-up that exceeds the room is stopped in both;
--- any other has the definition's chart and places. And what a choice leaves of the allowance, and how deep it gets.
+-- One choice: what the code tries is what the definition tries. A follow-up that exceeds the room stops both; any other
+-- has the definition's chart and places. Also: what a choice leaves of the allowance, and how deep it gets.
 -- Assumes nothing.
 use Prim.Native.Nat.{ℕ, suc, _+_, _-_, max, _<_, _≤_}
 use mathlib.Core.Bool.{Bool, true, false}
@@ -27,13 +27,13 @@ use Rattle.search_spec.specs.declared.Ended.the-variants.{Found, Failed,
 use Rattle.search_spec.specs.Ending.{leftOf, Leaves, Searches, Attempts}
 use Rattle.search_spec.proofs.Deepest.{Within, follow-up-within, walk-within}
 
--- A stop for want of room says nothing of the follow-up.
+-- A stop because of the room does not depend on the follow-up.
 stopped-alike :
     (b : Bool) (m n : ℕ) (f g : ℕ → ℕ → Ending) (s p : ℕ) → followUp b true m f s p ≡ followUp b true n g s p
 stopped-alike true m n f g s p = refl
 stopped-alike false m n f g s p = refl
 
--- Two follow-ups that exceed the room alike, and are the same if they do not.
+-- Two follow-ups go on alike if both exceed the room, or if both fit and are the same.
 follow-up-alike :
     (b : Bool) (room m n : ℕ) (f g : ℕ → ℕ → Ending) (s p : ℕ) → (room < m) ↔ (room < n)
     → (m ≤ room → followUp b false m f s p ≡ followUp b false n g s p)
@@ -80,7 +80,7 @@ module _ (allowance : ℕ) (rest : Log) where
         (goes (length after) (chartOf part) n) s p alike same
         ∙ ap (λ l. followUp b (ltb l n) n (goes l (chartOf part) n) s p) long
 
--- A search that went on after a step leaves less than there was before it.
+-- A search that went on after a step leaves less of the allowance than there was before the step.
 pub leaves-less : (allowance : ℕ) (r : Ended) → leftOf r < allowance → Leaves allowance r
 leaves-less allowance (Found left places) h = omega arith
 leaves-less allowance (Failed deepest left places) h = h

@@ -1,4 +1,4 @@
--- The choices of a search one after another, from some number on: there is none left, or one and those after it.
+-- The choices of a search one after another, from some number on: none is left, or one and those after it.
 -- Assumes nothing.
 use Prim.Native.Nat.{ℕ, suc, _+_, max, _<_, _≤_}
 use mathlib.Core.List.{List}
@@ -19,7 +19,7 @@ module _ (allowance room : ℕ) (go : Chart → ℕ → ℕ → ℕ → Ending) 
   abbrev pub from : ℕ → ℕ → ℕ → Ending
   from k s p = attempts allowance room go used (drop k xs) s p
 
-  -- Number k, tried.
+  -- Choice k, tried.
   abbrev pub tried : ℕ → ℕ → ℕ → Ending
   tried k s p =
       let x = getD xs k newEmpty in
@@ -40,13 +40,13 @@ module _ (allowance room : ℕ) (go : Chart → ℕ → ℕ → ℕ → Ending) 
       (follow-up-then (λ w. orNext w (from (suc k))) (λ number s p. refl) (leb allowance s) (ltb room n) n
       (go (chartOf x) n) s p))
 
--- No opening besides.
+-- An opening of no actions deepens nothing.
 pub deepened-not : (e : Ending) → deepened 0 e ≡ e
 deepened-not (found s p) = refl
 deepened-not (failed d s p) = ap (λ n. failed n s p) (omega arith)
 deepened-not (stopped number s p) = refl
 
--- Two openings besides.
+-- Two openings deepen as the longer one does.
 pub deepened-twice : (d e : ℕ) (w : Ending) → deepened d (deepened e w) ≡ deepened (max d e) w
 deepened-twice d e (found s p) = refl
 deepened-twice d e (failed deepest s p) = ap (λ n. failed n s p) (omega arith)

@@ -1,7 +1,7 @@
-// The answer of a search. What it means that a log was searched is said in specs/; the code that searches is the crate
+// The answer of a search. specs/ says what it means that a log was searched; the code that searches is in the crate
 // `search`.
 
-// How a search ends, each with the allowance left and the most places in use: it found an accepting path; or every
+// How a search ends, each time with the allowance left and the most places in use: it found an accepting path; or every
 // choice failed, with the most actions executed on one path; or it was stopped, with its number.
 pub enum Ended {
     Found {

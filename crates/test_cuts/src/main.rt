@@ -1,5 +1,5 @@
 // Cuts, run: 01's examples, every refusal, and what a cut does not simplify. Each line has number, place and length,
-// and then an output of 24 bytes that were EE hex, of which the first ones were lent.
+// and then the 24 bytes of an output that was filled with EE hex and of which the first bytes were lent.
 ghost use Prim.Native.Nat.{_≤_};
 ghost use lib.ListN.{length};
 use cut_spec::CutAnswer;
@@ -69,8 +69,8 @@ fn examples() {
     );
 }
 
-// Each refusal of a card, 1 to 6, with a lifeline that is not declared and no output; then 11 with no output, 12 with
-// none, and 13 with one byte too few, before the same cut with just enough.
+// Each refusal of a card, 1 to 6, with a lifeline that is not declared and no output; then 11 and 12, both with no
+// output; then 13 with one byte too few, and the same cut with just enough.
 fn refusals() {
     show(b"\x57\x4c", 9, 0);
     show(b"\x00\x00\x00\x00\x03\x00\x02\x01\x57\x4c", 9, 0);
@@ -96,8 +96,9 @@ fn refusals() {
     show(b"\x01\x00\x00\x00\x04\x00\x02\x01\x57\x4c", 1, 10);
 }
 
-// A loop that becomes empty inside a loop stays; nodes in another order, behind a note, are written left part, right
-// part, parent, by a declared lifeline that never acts; and an alt of which both sides are left stays an alt.
+// A loop around a loop that becomes empty stays; nodes in another order, after a note, are written left part, right
+// part, parent when a declared lifeline that never acts is cut out; and an alt of which both sides are left stays an
+// alt.
 fn others() {
     show(
         b"\x01\x00\x00\x00\x07\x00\x00\x00\x07\x01\x00\x00\x0c\x00\x02\x01\x57\x4c",

@@ -1,6 +1,7 @@
-// The deepest chart that a sound card and a log grow to in 16,384 places, and the execution rules on it: each descends
-// it by recursion, and all of it runs in a stack of 1 MB. The card is loopw(alt(0!0, strict(N, 0!2))) with N twelve
-// weak loops around 0!1; the log is 125 times 0!0, each two levels deeper than the last, and 0!1.
+// The deepest chart that a sound card and a log can grow in 16,384 places, and the execution rules on it. Each rule
+// descends it by recursion, and all of it runs in a stack of 1 MB. The card is loopw(alt(0!0, strict(N, 0!2))) with N
+// twelve weak loops around 0!1; the log is 125 times 0!0, each of which makes the chart two levels deeper, and then
+// 0!1.
 ghost use mathlib.Core.Path.{_≡_};
 ghost use Prim.Native.Nat.{suc, _<_, _≤_};
 ghost use lib.ListN.{length};
@@ -81,8 +82,8 @@ fn grow(room: &mut [u32], root: Root, action: Action, times: u32) -> Root
     last
 }
 
-// The execution rules on the chart at a root: what it takes and how deep it is, whether it terminates and evades a
-// lifeline, and whether pruning it and executing it once more exceed the room.
+// The execution rules on the chart at a root: the places in use with it and its depth, whether it terminates and evades
+// a lifeline, and whether pruning it and executing it once more exceed the room.
 fn ask(room: &mut [u32], root: Root)
     requires { ⌜ Table (now room) (root .used) × Rooted (now room) (root .place) × root .place < root .used ⌝ }
 {

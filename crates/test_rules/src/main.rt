@@ -110,7 +110,7 @@ fn write_line(room: &[u32], place: u32, used: u32)
     );
 }
 
-// The follow-ups of a part by an action, each built from the same places in use.
+// The follow-ups of a part by an action, each built above the same places in use.
 fn write_follow_ups(room: &mut [u32], place: u32, action: Action, used: u32)
     requires { ⌜ Table (now room) used × Rooted (now room) place × place < used ⌝ }
     ensures { λ r. ⌜ Kept used (now (room .entry)) (now (room .exit)) ⌝ }
@@ -130,8 +130,8 @@ fn write_follow_ups(room: &mut [u32], place: u32, action: Action, used: u32)
     }
 }
 
-// Follows the chart at a place by steps of three bytes: the action's two as in a log, and which of its follow-ups to
-// go on with.
+// Follows the chart at a root by steps of three bytes: the action's two bytes as in a log, and the number of the
+// follow-up to go on with.
 fn walk(room: &mut [u32], root: Root, steps: &[u8])
     requires { ⌜ Table (now room) (root .used) × Rooted (now room) (root .place) × root .place < root .used ⌝ }
 {
@@ -161,7 +161,7 @@ fn walk(room: &mut [u32], root: Root, steps: &[u8])
     }
 }
 
-// A card's chart, and what comes of it by these steps.
+// A card's chart, and what these steps make of it.
 fn show_in(card: &[u8], steps: &[u8], room: &mut [u32])
     requires { ⌜ length (now room) ≤ 16384 ⌝ }
 {
@@ -182,9 +182,9 @@ fn show(card: &[u8], steps: &[u8]) {
     show_in(card, steps, &mut room);
 }
 
-// The charts of 01's table: empty, S, par(0!0, 0!0), alt(0!0, S), head loop of K and weak loop of K. Of its errors
-// these show: following the first occurrence only, and counting the places of a failed choice for ever (alt(0!0, S):
-// two follow-ups, both built from five places in use); running a weak loop as a head loop (the last two); taking "the
+// The charts of 01's table: empty, S, par(0!0, 0!0), alt(0!0, S), head loop of K and weak loop of K. They show these of
+// its errors: following the first occurrence only, and counting the places of a failed choice for ever (alt(0!0, S):
+// two follow-ups, both built above five places in use); running a weak loop as a head loop (the last two); taking "the
 // log is used up" for acceptance (S after 0!0 does not terminate).
 fn table() {
     show(b"\x00\x00\x00\x00\x04\x00\x02\x03\x57\x4c", b"\x00\x00\x00");
@@ -214,8 +214,8 @@ fn table() {
     );
 }
 
-// The right of a seq, with the left pruned: an alt to one side, so that a log whose left choice contradicts it finds no
-// follow-up; an alt to both sides; a loop to an empty; a loop to a loop; and a left that lets nothing pass.
+// The right of a seq acts, and the left is pruned: an alt to one side, so that the side that contradicts the log has no
+// follow-up afterwards; an alt to both sides; a loop to an empty; a loop to a loop; and a left that lets nothing pass.
 fn seqs() {
     show(
         b"\x01\x00\x00\x00\x01\x01\x00\x00\x06\x00\x01\x00\x01\x00\x01\x00\x04\x02\x03\x00\x14\x00\x02\x03\x57\x4c",
@@ -239,7 +239,7 @@ fn seqs() {
     );
 }
 
-// The right of a strict, its left terminating; the strict and the parallel loop; a weak loop in a weak loop.
+// The right of a strict whose left terminates; the strict and the parallel loop; a weak loop in a weak loop.
 fn others() {
     show(
         b"\x01\x00\x00\x00\x07\x00\x00\x00\x01\x01\x00\x00\x03\x01\x02\x00\x10\x00\x02\x03\x57\x4c",

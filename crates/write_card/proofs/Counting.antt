@@ -1,4 +1,4 @@
--- A part in a room has as many nodes as its parts and one more, by the ranges of kinds over which code decides.
+-- A part in a room has one node more than its own parts together, by the ranges of kinds that the code tests.
 -- Assumes nothing.
 use Prim.Native.Nat.{ℕ, _+_, _≤_}
 use mathlib.Core.List.{List}

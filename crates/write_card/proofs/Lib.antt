@@ -1,4 +1,4 @@
--- Laws of a chart that is counted and written part by part out of a room.
+-- Laws of counting and writing a chart in a room, part by part.
 pub mod Counting
 pub mod Putting
 pub mod Whole

@@ -1,5 +1,5 @@
--- A part in a room is written by its node and its parts: what is written of the parts one after the other, and then of
--- the node, is what is written of the whole.
+-- A part in a room is written by its own parts and its node: what is written of its parts, one after the other, and
+-- then of its node, is what is written of the whole.
 -- Assumes nothing.
 use Prim.Native.Nat.{ℕ, suc, _+_, _-_, _*_, _≤_}
 use mathlib.Core.List.{List, [], _∷_, _++_}
@@ -50,7 +50,7 @@ records-append : (row more : List Node) → recordsOf (row ++ more) ≡ recordsO
 records-append [] more = refl
 records-append (n ∷ row) more = ap (λ bytes. recordOf n ++ bytes) (records-append row more)
 
--- More nodes behind the first ones.
+-- More nodes after the first ones.
 more-written :
     (out : List ℕ) (first next : ℕ) (row more : List Node) → next ≡ first + length row
     → sets (sets out (first * 4) (recordsOf row)) (next * 4) (recordsOf more)
@@ -96,7 +96,7 @@ module _ (r : Reading) (first : ℕ) (out : List ℕ) (w : Writable (whole r) fi
             ∙ ap (λ c. sets out (first * 4) (recordsOf (written first c))) (sym acts),
       )
 
-  -- An empty, and what has no kind, is written as an empty.
+  -- An empty, and a node of no kind, is written as an empty.
   module _ (nothing-here : whole r ≡ empty) where
     pub asks-empty : Storable (nodeAs nothing 0 0) first out
     asks-empty =

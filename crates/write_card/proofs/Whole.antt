@@ -1,5 +1,5 @@
--- The whole card: nodes from the first byte on, and the trailer behind them. A chart that a card can hold can be
--- written into an output that has room for its card.
+-- The whole card: the nodes from the first byte on, and the trailer after them. A chart that a card can hold can be
+-- written into an output that is long enough for its card.
 -- Assumes nothing.
 use Prim.Native.Nat.{ℕ, _+_, _*_, _≤_}
 use mathlib.Core.List.{List, _++_}
@@ -17,7 +17,7 @@ use Rattle.write_spec.proofs.Nodes.{length-written}
 use Rattle.write_spec.proofs.Read.{length-records, length-card}
 use Rattle.write_card.proofs.Putting.{sets-append}
 
--- Nodes from the first byte on and the trailer behind them are the card, and what stands behind it is as it was.
+-- The nodes from the first byte on and the trailer after them are the card, and the bytes after it are as they were.
 pub card-written :
     (lifelines messages : ℕ) (c : Chart) (out : List ℕ) (next : ℕ) (middle after : List ℕ) → cardBytes c ≤ length out
     → Writes c 0 out next middle → after ≡ sets middle (next * 4) (trailerOf (next * 4) lifelines messages)
@@ -38,7 +38,7 @@ card-written lifelines messages c out next middle after enough (counted, nodes) 
     ∙ sets-eq (cardOf lifelines messages c) out (0 * 4) (omega arith)
     ∙ ap (λ k. cardOf lifelines messages c ++ drop k out) from
 
--- A chart that a card can hold can be written into an output that has room for the card.
+-- A chart that a card can hold can be written into an output that is long enough for the card.
 pub held-is-writable :
     (lifelines messages : ℕ) (c : Chart) (out : List ℕ) → Holds lifelines messages c → cardBytes c ≤ length out
     → Writable c 0 out

@@ -1,5 +1,5 @@
 -- Working definitions, which nobody has to believe: what it means that a node, or the nodes of a chart, were written
--- into an output, and what that asks.
+-- into an output, and what that requires.
 -- Assumes nothing.
 use Prim.Native.Nat.{ℕ, _+_, _*_, _≤_, _<_}
 use mathlib.Core.List.{List}
@@ -12,7 +12,7 @@ use Rattle.card_spec.specs.Meaning.{Declared}
 use Rattle.write_spec.specs.Rows.{written}
 use Rattle.write_spec.specs.Cards.{recordOf, recordsOf}
 
--- A node whose record can be stored in an output as the one with that number: each of its numbers fits in a byte.
+-- A node whose record can be stored in an output under that number: each of its numbers fits in a byte.
 pub record Storable (n : Node) (number : ℕ) (out : List ℕ) : Type 0 where
   pub kind : n .kind < 256
   pub a : n .a < 256
@@ -20,7 +20,7 @@ pub record Storable (n : Node) (number : ℕ) (out : List ℕ) : Type 0 where
   pub few : number < 256
   pub enough : (number + 1) * 4 ≤ length out
 
--- The record of a node was stored in an output as the one with that number, and `next` is the number after it.
+-- The record of a node was stored in an output under that number, and `next` is the number after it.
 abbrev pub Stores : Node → ℕ → List ℕ → ℕ → List ℕ → Type 0
 Stores n number before next after =
     (next ≡ number + 1) × (after ≡ sets before (number * 4) (recordOf n))

@@ -41,7 +41,7 @@ fn store(out: &mut [u8], at: usize, byte: u8)
     out[at] = byte;
 }
 
-// The record of the node with that number. The next node's number is handed back.
+// Stores the record of the node with that number, and returns the next node's number.
 fn put(out: &mut [u8], number: u32, kind: u32, a: u32, b: u32) -> u32
     requires { ⌜ Storable (record { kind = kind; a = a; b = b }) number (now out) ⌝ }
     ensures { λ r.
@@ -55,8 +55,8 @@ fn put(out: &mut [u8], number: u32, kind: u32, a: u32, b: u32) -> u32
     number + 1
 }
 
-// The records of a part's nodes, left part before right part before parent, the first of them with that number. The
-// next node's number is handed back.
+// Stores the records of a part's nodes, left part before right part before parent, numbered from `first` on, and
+// returns the next node's number.
 fn write(room: &[u32], place: u32, out: &mut [u8], first: u32) -> u32
     requires { ⌜ Rooted (now room) place × Writable (chartIn (now room) place) first (now out) ⌝ }
     ensures { λ r. ⌜ Writes (chartIn (now (room .entry)) place) first (now (out .entry)) r (now (out .exit)) ⌝ }
@@ -78,7 +78,7 @@ fn write(room: &[u32], place: u32, out: &mut [u8], first: u32) -> u32
     }
 }
 
-// The trailer behind nodes that take so many bytes.
+// Stores the trailer after nodes that take `back` bytes.
 fn put_trailer(out: &mut [u8], back: usize, lifelines: u32, messages: u32)
     requires { ⌜ back + 6 ≤ length (now out) × back < 65536 × lifelines < 256 × messages < 256 ⌝ }
     ensures { λ r. ⌜ now (out .exit) ≡ sets (now (out .entry)) back (trailerOf back lifelines messages) ⌝ }
@@ -91,7 +91,7 @@ fn put_trailer(out: &mut [u8], back: usize, lifelines: u32, messages: u32)
     store(out, back + 5, 0x4C);
 }
 
-// The card of a part, with these counts, in the first bytes of an output that has as many.
+// Writes the card of a part, with these counts, to the first bytes of an output that is long enough.
 pub fn write_card(room: &[u32], place: u32, lifelines: u32, messages: u32, out: &mut [u8])
     requires { ⌜ Rooted (now room) place × Holds lifelines messages (chartIn (now room) place)
         × cardBytes (chartIn (now room) place) ≤ length (now out) ⌝ }

@@ -1,6 +1,6 @@
--- A chart written down as a row of nodes is read back as that chart; its row has one node a part, in which each node
--- but the root is a child exactly once, and each is in order if the chart is declared. All by induction on the chart,
--- for any number that its first node has.
+-- A chart written down as a row of nodes is read back as that chart. The row has one node for each part; each node but
+-- the root is a child exactly once, and each is in order if the chart is declared. All by induction on the chart,
+-- whatever number its first node has.
 -- Assumes nothing.
 use Prim.Native.Nat.{ℕ, zero, suc, _+_, _-_, _<_, _≤_}
 use mathlib.Core.Bool.{true, false, cond}
@@ -40,7 +40,7 @@ at-least-one (alt l r) = omega arith
 at-least-one (pair o l r) = omega arith
 at-least-one (loop k b) = omega arith
 
--- ---- one node a part
+-- ---- one node for each part
 
 length-joined : (wl wr : List Node) (n : Node) → length ((wl ++ wr) ++ (n ∷ [])) ≡ 1 + (length wl + length wr)
 length-joined wl wr n = omega (arith, length-append (wl ++ wr) (n ∷ []), length-append wl wr)
@@ -97,7 +97,7 @@ its-own-last-part (alt l r) = (parts l ++ parts r, refl)
 its-own-last-part (pair o l r) = (parts l ++ parts r, refl)
 its-own-last-part (loop k b) = (parts b, refl)
 
--- After other charts it stands at its root.
+-- Written after other charts, a chart stands at its root.
 at-its-root :
     (before : List Chart) (first : ℕ) (c : Chart) → length before ≡ first
     → getD (before ++ parts c) (rootFrom first c) empty ≡ c
@@ -246,7 +246,7 @@ written-uses-each-once c j h =
 -- ---- each node is in order
 
 module _ (lifelines messages : ℕ) where
-  -- Each node of a row is in order, the first of them having that number.
+  -- Each node of a row is in order, if the first of them has that number.
   abbrev Orderly : ℕ → List Node → Type 0
   Orderly i [] = Unit
   Orderly i (n ∷ row) =

@@ -1,5 +1,6 @@
 -- A card that was written is read back: its nodes, its counts and its chart are what was written, and it is sound if a
--- card can hold the chart. The bytes are taken apart where they were put together: before the trailer, and every four.
+-- card can hold the chart. The bytes are taken apart where they were put together: before the trailer, and after every
+-- four bytes.
 -- Assumes nothing.
 use Prim.Native.Nat.{ℕ, zero, suc, _+_, _-_, _*_, _%_, _<_, _≤_}
 use mathlib.Core.Bool.{true, cond}

@@ -1,4 +1,4 @@
--- A chart written down as a row of nodes. It is the way back from `chart` (node_spec/specs/Row.antt).
+-- A chart written down as a row of nodes. `chart` (node_spec/specs/Row.antt) reads it back.
 -- Assumes nothing.
 use Prim.Native.Nat.{ℕ, _+_, _-_}
 use mathlib.Core.List.{List, [], _∷_, _++_}
@@ -21,7 +21,7 @@ rootFrom first c = first + size c - 1
 abbrev pub parentOf : Kind → ℕ → Chart → Chart → Node
 parentOf k first l r = nodeAs k (rootFrom first l) (rootFrom (first + size l) r)
 
--- The nodes of a chart, the first of which has that number: "left part before right part before parent"
+-- The nodes of a chart, numbered from `first` on: "left part before right part before parent"
 -- (01, Verdicts and numbers given).
 unfoldable pub written : ℕ → Chart → List Node
 written first empty = nodeAs nothing 0 0 ∷ []

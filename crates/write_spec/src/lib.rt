@@ -1,2 +1,2 @@
-// A chart written down as a card: what is written is said in specs/, and that it is a sound card with that chart in
-// proofs/. The code is the crate `write_card`.
+// A chart written down as a card: specs/ says what is written, and proofs/ shows that it is a sound card with that
+// chart. The code is in the crate `write_card`.

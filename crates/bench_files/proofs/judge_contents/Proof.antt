@@ -1,5 +1,5 @@
--- `judge_contents` meets its contract: without one of the contents there is none to judge; else what was read stands at
--- the front of the lent bytes, and that is judged. Assumes nothing.
+-- `judge_contents` meets its contract: if a file is missing, nothing is judged; else what was read stands at the front
+-- of the lent bytes, and that is judged. Assumes nothing.
 use Prim.Native.Nat.{_-_}
 use mathlib.Core.Path.{_≡_, ap, _∙_}
 use native.Mathlib.Omega.{arith}

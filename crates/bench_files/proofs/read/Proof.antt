@@ -1,5 +1,5 @@
--- `read` meets its contract: each turn puts some bytes more behind those that were read, and never more than there is
--- room for; what it ends with is what `after` made of the last answer. Assumes nothing.
+-- `read` meets its contract: each turn puts more bytes after those that were read before, and never more than fit. The
+-- result is what `after` made of the last answer. Assumes nothing.
 use Prim.Native.Nat.{_-_, _<_, _≤_}
 use mathlib.Core.Path.{_≡_, refl, sym, subst, _∙_}
 use native.Mathlib.Omega.{arith}
@@ -18,7 +18,7 @@ Inv-loop file bytes₀ long end₀ bytes end = (end ≤ length bytes₀) × (len
 abbrev μ-loop : tie.MeasureT-loop
 μ-loop file bytes₀ long end₀ bytes end = length bytes₀ - end
 
--- The lent bytes are as many after a read.
+-- A read does not change how many bytes are lent.
 still-long : (c : tie.After-read Inv-loop μ-loop)
     → (let s = c .before .before .before .before .before .args .bytes .now in
     let at = c .before .before .loop in
@@ -28,7 +28,7 @@ still-long c =
     let at = c .before .before .loop in
     same-len-mid (at .end) (length s - at .end) (at .bytes) (c .read .last .1 .0) (c .read .kept .1 .0) ∙ at .inv .1
 
--- The answer, as `after` is handed it, is a failure or a number of bytes for which there was room.
+-- The answer that `after` gets is a failure or a number of bytes that fit.
 moved : (c : tie.After-read Inv-loop μ-loop)
     → Moved (length (c .before .before .before .before .before .args .bytes .now) - c .before .before .loop .end)
     (readOut (c .read .result))
@@ -40,7 +40,7 @@ moved c =
     subst (Moved (length s - at .end)) (sym (toZ-ofZ w64 (c .read .result) (record { sfits = c .read .ok })))
     (rw part at (c .read .ensures))
 
--- The next turn begins behind what was read before, and within the lent bytes.
+-- The next turn begins after what was read before, and within the lent bytes.
 further : (c : tie.After-known-told Inv-loop μ-loop)
     → (let at = c .before .before .before .before .before .before .before .before .loop in
     let s =

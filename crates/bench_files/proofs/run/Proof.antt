@@ -1,4 +1,4 @@
--- `run` meets its contract: it lends as many bytes as a card and a log may have, and one more, and the room of 01.
+-- `run` meets its contract: it lends one byte more than a card may have, one more than a log may have, and 01's room.
 -- Assumes nothing.
 use Prim.Native.Nat.{ℕ}
 use mathlib.Core.Path.{ap, _∙_}

@@ -1,4 +1,4 @@
--- `tell` meets its contract: what is written are the bytes of the line. Assumes nothing.
+-- `tell` meets its contract: the bytes that it writes are those of the line. Assumes nothing.
 use Prim.Native.Nat.{_-_}
 use mathlib.Core.Path.{_≡_, ap, _∙_}
 use native.Mathlib.Omega.{arith}

@@ -1,4 +1,4 @@
--- `with_number` meets its contract: a number below 10 is one digit; of any other the digits of its tenth come first,
+-- `with_number` meets its contract: a number below 10 is one digit; any other has the digits of `number / 10` first,
 -- and then its last digit. The number falls at each call. Assumes nothing.
 use Prim.Native.Nat.{ℕ, _+_, _/_, _%_, _^_, _≤_, _<_}
 use mathlib.Core.List.{[], _∷_}
@@ -17,7 +17,7 @@ use Rattle.bench_line.proofs.+with_number.Lts-with_number as lts
 use Rattle.bench_line.proofs.+with_number.{statement}
 use Rattle.bench_line.proofs.+with_number.Tie.{close}
 
--- A number's digits are those of its tenth and one more.
+-- A number n of at least 10 has one digit more than `n / 10`.
 one-digit-more : (n : ℕ) → 10 ≤ n → n < 2 ^ 32 → length (decimal n) ≡ length (decimal (n / 10)) + 1
 one-digit-more n many fits =
     ap length (more-digits n many fits) ∙ length-append (decimal (n / 10)) (digit (n % 10) ∷ [])

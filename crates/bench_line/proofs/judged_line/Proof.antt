@@ -1,5 +1,5 @@
--- `judged_line` meets its contract: the word, then each number behind a blank, then the line's end. A word has at most
--- 18 bytes and a number at most ten, so the whole has at most 52. Assumes nothing.
+-- `judged_line` meets its contract: the word, then each number after a blank, then the line's end. A word has at most
+-- 18 bytes and a number at most ten, so the line has at most 52. Assumes nothing.
 use Prim.Native.Nat.{suc, _+_, _≤_}
 use mathlib.Core.List.{List, [], _∷_, _++_}
 use native.Mathlib.Omega.{arith}
@@ -13,7 +13,7 @@ use Rattle.bench_line.proofs.Adding.{adds-both, fits-less, fits-the-res
 use Rattle.bench_line.proofs.judged_line.Statement.{statement}
 use Rattle.bench_line.proofs.judged_line.Tie as tie
 
--- The pieces of a line are short.
+-- How long the pieces of a line are at most.
 record Short (judged : Judged) : Type 0 where
   word : length (wordOf (judged .number)) ≤ 18
   place : length (decimal (judged .place)) ≤ 10

@@ -1,4 +1,4 @@
--- `spell` meets its contract: by what is told, the line of the judgment, or that of a missing file. Assumes nothing.
+-- `spell` meets its contract: the line of a judgment, or the line for a missing file. Assumes nothing.
 use mathlib.Core.Path.{sym, subst}
 use native.Mathlib.Omega.{arith}
 use borrow.Author.Needs.{needs}

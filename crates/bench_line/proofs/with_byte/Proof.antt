@@ -1,4 +1,4 @@
--- `with_byte` meets its contract: a byte is put at the end of what the text says. Assumes nothing.
+-- `with_byte` meets its contract: it puts the byte after what the text says. Assumes nothing.
 use native.Mathlib.Numerals.{add-one}
 use native.Mathlib.Omega.{arith}
 use lib.ListN.{length-set}

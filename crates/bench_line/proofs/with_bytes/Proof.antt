@@ -1,4 +1,4 @@
--- `with_bytes` meets its contract: after i turns the first i bytes are put to the text. Assumes nothing.
+-- `with_bytes` meets its contract: after i turns the first i bytes have been added to the text. Assumes nothing.
 use Prim.Native.Nat.{_-_, _≤_}
 use native.Mathlib.Numerals.{add-one}
 use native.Mathlib.Omega.{arith}

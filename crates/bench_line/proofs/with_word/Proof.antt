@@ -1,4 +1,4 @@
--- `with_word` meets its contract: at each number its word. Assumes nothing.
+-- `with_word` meets its contract: each number gets its word. Assumes nothing.
 use mathlib.Core.Path.{_≡_, ap}
 use mathlib.Core.List.{_++_}
 use native.Mathlib.Omega.{arith}

@@ -1,5 +1,5 @@
--- `after` meets its contract: by the tests of an answer, what it comes to. An answer that is neither negative nor zero
--- is how many bytes were read, and no more than there was room for. Assumes nothing.
+-- `after` meets its contract: its tests find out what the answer means. An answer that is neither negative nor zero is
+-- the number of bytes that were read, and no more than fit. Assumes nothing.
 use Prim.Native.Nat.{_+_, _-_, _≤_}
 use mathlib.Core.Bool.{Bool, true, false}
 use mathlib.Core.Path.{_≡_, sym, ap, _∙_}
@@ -47,7 +47,7 @@ cast-read c = (is-not-negative (c .before .before .args .got) (positive c), omeg
 add-read : tie.Need-add-read
 add-read c = omega (arith, within c)
 
--- Whether that is all that there was room for.
+-- Whether the lent bytes are full.
 so-far :
     (c : tie.Else2) (all : Bool)
     → (let a = c .before .before .args in

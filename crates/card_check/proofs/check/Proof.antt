@@ -10,7 +10,7 @@ use Rattle.card_spec.proofs.Answers.{answer-four, answer-five, answer-six, answ
 use Rattle.card_check.proofs.check.Statement.{statement}
 use Rattle.card_check.proofs.check.Tie as tie
 
--- The rules of the trailer are passed where the nodes are read.
+-- Where the code reads the nodes, the card has passed rules 1 to 3.
 passed-so-far : (c : tie.After-nodes) → Passed
     (c .before .before .before .before .before .before .before .before .args .card .now)
 passed-so-far c =
@@ -23,7 +23,7 @@ passed-so-far c =
       three = test-passed (c .before .before .are-counts-in-range .ensures) (c .before .if3 .left);
     }
 
--- What was found of the nodes was found of the card.
+-- What `lowest_faulty` found in the nodes is what the definition finds in the card.
 faults-found :
     (c : tie.After-lowest-faulty)
     → faults

@@ -1,5 +1,5 @@
--- `note` meets its contract: the part up to the first node, or the empty part, by the answer of `check`; both begin
--- where the card begins. Assumes nothing.
+-- `note` meets its contract: the answer of `check` decides between the part up to the first node and the empty part;
+-- both begin where the card begins. Assumes nothing.
 use Prim.Native.Nat.{ℕ, _+_, _-_}
 use mathlib.Core.Path.{_≡_, ap}
 use native.Mathlib.Omega.{arith}

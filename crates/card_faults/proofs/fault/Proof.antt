@@ -7,7 +7,7 @@ use Rattle.card_faults.proofs.NodeFaults.{fault-as-read}
 use Rattle.card_faults.proofs.fault.Statement.{statement}
 use Rattle.card_faults.proofs.fault.Tie as tie
 
--- The answer of the test, as the definition's fault.
+-- The test's answer gives the definition's fault.
 as-read :
     (c : tie.After-is-in-order)
     → cond (c .is-in-order .result) 0 4

@@ -1,5 +1,5 @@
--- `is_in_order` meets its contract: each arm of the decision knows the kind, and the definition at
--- that kind is the arm's two tests. Assumes nothing.
+-- `is_in_order` meets its contract: each arm of the match knows the kind, and the definition for that kind is the arm's
+-- two tests. Assumes nothing.
 use native.Mathlib.Omega.{arith}
 use borrow.Author.Tests.{ne-eqb, eq-eqb, lt-ltb, le-ltb}
 use Rattle.node_spec.proofs.Ranges.{zero-is-nothing, one-and-two-are-actions, three-to-six-are-pairs}

@@ -1,5 +1,5 @@
--- `lowest_faulty` meets its contract: every node before i is fine; the loop stops at the first that
--- is not. Assumes nothing.
+-- `lowest_faulty` meets its contract: every node before i is fine, and the loop stops at the first that is not.
+-- Assumes nothing.
 use Prim.Native.Nat.{_≤_, _-_}
 use mathlib.Core.Path.{_≡_, refl, sym, _∙_}
 use native.Mathlib.Omega.{arith}

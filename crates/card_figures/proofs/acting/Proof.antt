@@ -1,5 +1,5 @@
--- `acting` meets its contract: the set holds the lifelines that act in the first i nodes; its ones
--- are their number. Assumes nothing.
+-- `acting` meets its contract: the set holds the lifelines that act in the first i nodes, and has as many ones as there
+-- are such lifelines. Assumes nothing.
 use Prim.Native.Nat.{_≤_, _-_}
 use mathlib.Core.Path.{_≡_, sym, _∙_, ap}
 use native.Mathlib.Omega.{arith}

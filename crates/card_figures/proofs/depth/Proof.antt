@@ -1,4 +1,4 @@
--- `depth` meets its contract: the depths of the first i nodes are known. Assumes nothing.
+-- `depth` meets its contract: after i turns the depths of the first i nodes are known. Assumes nothing.
 use Prim.Native.Nat.{_≤_, _-_}
 use mathlib.Core.Path.{_≡_}
 use native.Mathlib.Omega.{arith}

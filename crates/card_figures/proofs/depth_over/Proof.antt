@@ -1,4 +1,4 @@
--- `depth_over` meets its contract: each arm of the decision knows the children. Assumes nothing.
+-- `depth_over` meets its contract: each arm of the match knows the children. Assumes nothing.
 use mathlib.Core.List.{[], _∷_}
 use native.Mathlib.Omega.{arith}
 use Rattle.node_spec.specs.Row.{Below}

@@ -1,4 +1,4 @@
--- `trailer` meets its contract: the byte, or 0, by the test that led to each return. Assumes nothing.
+-- `trailer` meets its contract: the test before each return decides between the byte and 0. Assumes nothing.
 use native.Mathlib.Omega.{arith}
 use mathlib.Core.Path.{_∙_, sym}
 use Rattle.card_spec.proofs.Trailers.{no-trailer, trailer-there}

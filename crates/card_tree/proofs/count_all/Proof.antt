@@ -1,4 +1,4 @@
--- `count_all` meets its contract: the children of the first i nodes are counted. Assumes nothing.
+-- `count_all` meets its contract: after i turns the children of the first i nodes are counted. Assumes nothing.
 use Prim.Native.Nat.{_≤_, _-_}
 use mathlib.Core.Path.{_≡_}
 use native.Mathlib.Omega.{arith}
@@ -15,7 +15,7 @@ Inv-loop counts₀ nodes count i₀ counts i = (i ≤ count) × Counted nodes i 
 abbrev μ-loop : tie.MeasureT-loop
 μ-loop counts₀ nodes count i₀ counts i = count - i
 
--- The children of node i have a place in the counts.
+-- Each child of node i has a count.
 low : (c : tie.After-node-at Inv-loop μ-loop) → Below 255 (children (c .node-at .result))
 low c =
     let s = c .before .before .before .before .before .before in

@@ -1,4 +1,4 @@
--- `count_children` meets its contract: each arm of the decision knows the children. Assumes nothing.
+-- `count_children` meets its contract: each arm of the match knows the children. Assumes nothing.
 use mathlib.Core.Path.{_∙_, ap}
 use mathlib.Core.List.{[], _∷_}
 use native.Mathlib.Omega.{arith}

@@ -1,5 +1,5 @@
--- `lowest_misused` meets its contract: every node before j is a child once; the loop stops at the first
--- that is not. Assumes nothing.
+-- `lowest_misused` meets its contract: every node before j is a child once, and the loop stops at the first that is
+-- not. Assumes nothing.
 use Prim.Native.Nat.{_≤_, _-_}
 use mathlib.Core.Path.{_≡_, refl, sym, _∙_, ap}
 use native.Mathlib.Omega.{arith}

@@ -1,4 +1,4 @@
--- `cut` meets its contract: what is found of the card and of the lifeline decides, or the cut of a sound card does.
+-- `cut` meets its contract: the card or the lifeline is refused; else `cut_in` makes the cut of the sound card.
 -- Assumes nothing.
 use mathlib.Core.Path.{refl, sym, ap, _∙_}
 use native.Mathlib.Omega.{arith}
@@ -9,7 +9,7 @@ use Rattle.cut_spec.proofs.Refusing.{card-refused, not-declared}
 use Rattle.cut.proofs.cut.Statement.{statement}
 use Rattle.cut.proofs.cut.Tie as tie
 
--- The card is sound where it was not refused.
+-- A card that was not refused is sound.
 card-sound : (c : tie.Else1) → Sound (c .before .before .before .before .args .card .now)
 card-sound c =
     zero-exactly-for-sound-cards (c .before .before .before .before .args .card .now) .0

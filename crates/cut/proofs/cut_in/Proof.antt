@@ -1,5 +1,5 @@
--- `cut_in` meets its contract: the chart is laid and pruned, and what is left of it, if anything, is written where the
--- output has room for its card. Assumes nothing.
+-- `cut_in` meets its contract: the chart is laid and pruned, and what is left of it, if anything, is written if the
+-- output is long enough for its card. Assumes nothing.
 use Prim.Native.Nat.{_<_, _≤_}
 use mathlib.Core.Path.{_≡_, ap, sym, _∙_}
 use native.Mathlib.Omega.{arith}
@@ -20,7 +20,7 @@ use Rattle.cut_spec.proofs.Refusing.{never-avoided, too-short, card-made}
 use Rattle.cut.proofs.cut_in.Statement.{statement}
 use Rattle.cut.proofs.cut_in.Tie as tie
 
--- The entry, seen from where pruning answered a part.
+-- The entry of the function, seen from where pruning has returned a part.
 abbrev entry : tie.After-known-told → tie.Start
 entry c =
     c .before .before .before .before .before .before .before .before .before .before .before .before .before .before

@@ -1,4 +1,4 @@
--- `answer_in` meets its contract: 10 where the chart exceeds the room, else what is told of the search.
+-- `answer_in` meets its contract: 10 if the chart exceeds the room, else the answer of the search.
 -- Assumes nothing.
 use mathlib.Core.Path.{sym, ap, _∙_}
 use native.Mathlib.Omega.{arith}

@@ -1,5 +1,5 @@
--- `judge` meets its contract: what is found of the card and of the log decides, and the usable room is cleared where
--- neither is refused. Assumes nothing.
+-- `judge` meets its contract: the card or the log is refused; if neither is, the usable room is cleared.
+-- Assumes nothing.
 use Prim.Native.Nat.{_-_}
 use mathlib.Core.Path.{_≡_, sym, ap, _∙_}
 use native.Mathlib.Omega.{arith}
@@ -29,13 +29,13 @@ returns c =
     (c .before .if1 .taken) in
     (c .refused .ensures ∙ answer, room)
 
--- The card was sound where the log is checked,
+-- Where the log is checked, the card is sound,
 card-sound : (c : tie.Else1) → Sound (c .before .before .before .before .before .args .card .now)
 card-sound c =
     zero-exactly-for-sound-cards (c .before .before .before .before .before .args .card .now) .0
     (sym (ap (λ a. a .number) (c .before .check .ensures)) ∙ c .if1 .left)
 
--- and what was found of the log was found by the card's counts.
+-- and the log was checked with the card's counts.
 log-found : (c : tie.After-check2)
     → c .check2 .result
     ≡ refusing (lifelinesOf (c .before .before .before .before .before .before .before .before .args .card .now))

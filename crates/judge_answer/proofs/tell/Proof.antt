@@ -1,4 +1,4 @@
--- `tell` meets its contract: each ending is told as it is. Assumes nothing.
+-- `tell` meets its contract: each ending gets its answer. Assumes nothing.
 use Rattle.judge_answer.proofs.tell.Statement.{statement}
 use Rattle.judge_answer.proofs.tell.Tie as tie
 

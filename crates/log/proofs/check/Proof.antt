@@ -1,4 +1,4 @@
--- `check` meets its contract: 7 where the length is out of rule, else what is found of the actions. Assumes nothing.
+-- `check` meets its contract: 7 if the length is out of rule, else what is found in the actions. Assumes nothing.
 use mathlib.Core.Path.{sym, _∙_}
 use Rattle.log_spec.proofs.Rules.{in-rule-is-short, out-of-rule-is-seven, in-rule-is-by-its-actions}
 use Rattle.chart_spec.proofs.Tests.{test-failed, test-passed}

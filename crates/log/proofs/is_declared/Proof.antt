@@ -1,4 +1,4 @@
--- `is_declared` meets its contract: both tests, the second only where the first passes. Assumes nothing.
+-- `is_declared` meets its contract: both tests, the second only if the first passes. Assumes nothing.
 use borrow.Author.Tests.{lt-ltb, le-ltb}
 use Rattle.log.proofs.is_declared.Statement.{statement}
 use Rattle.log.proofs.is_declared.Tie as tie

@@ -1,4 +1,4 @@
--- `is_in_rule` meets its contract: both tests, the second only where the first passes. Assumes nothing.
+-- `is_in_rule` meets its contract: both tests, the second only if the first passes. Assumes nothing.
 use borrow.Author.Tests.{ne-eqb, eq-eqb}
 use Rattle.log.proofs.is_in_rule.Statement.{statement}
 use Rattle.log.proofs.is_in_rule.Tie as tie

@@ -18,7 +18,7 @@ Inv-loop log lifelines messages count i₀ i = (i ≤ count) × (lowest (undecla
 abbrev μ-loop : tie.MeasureT-loop
 μ-loop log lifelines messages count i₀ i = count - i
 
--- What was asked of action i.
+-- What the test of action i answered.
 asked : (c : tie.After-is-declared Inv-loop μ-loop)
     → c .is-declared .result
     ≡ declared (c .before .before .before .before .before .args .lifelines)

@@ -1,4 +1,4 @@
--- `evades` meets its contract: at each kind the answer is the chart's, from the answers at its parts.
+-- `evades` meets its contract: for each kind, the answers at the parts give the answer for the chart.
 -- Assumes nothing.
 use mathlib.Core.Path.{_≡_, sym, ap}
 use native.Mathlib.Omega.{arith}

@@ -1,5 +1,5 @@
--- `execute` meets its contract: at each kind the answer is for the follow-ups of the chart, from the answers at its
--- parts. Assumes nothing.
+-- `execute` meets its contract: for each kind, the answers at the parts give the answer for the follow-ups of the
+-- chart. Assumes nothing.
 use mathlib.Core.Path.{_≡_, refl, _∙_}
 use native.Mathlib.Omega.{arith}
 use Rattle.chart_spec.specs.Action as chart

@@ -1,5 +1,5 @@
--- `lay_whole` meets its contract: the first i nodes stand in the first i places, and the rest is as it was. Assumes
--- nothing.
+-- `lay_whole` meets its contract: after i turns the first i nodes stand in the first i places, and the rest is as it
+-- was. Assumes nothing.
 use Prim.Native.Nat.{_≤_, _<_, _-_}
 use mathlib.Core.Path.{_≡_, refl}
 use native.Mathlib.Omega.{arith}

@@ -1,5 +1,5 @@
--- `after_round` meets its contract: the round that was begun before the loop; of a weak loop the loop pruned before
--- both. Assumes nothing.
+-- `after_round` meets its contract: the round that was begun, and the loop after it; for a weak loop, the pruned loop
+-- before both. Assumes nothing.
 use mathlib.Core.Path.{refl, _∙_}
 use Rattle.room_spec.specs.Room.{nodeIn}
 use Rattle.room_spec.proofs.Apart.{Reading}

@@ -1,4 +1,4 @@
--- `on_left` meets its contract: an alt's side is left alone, any other pair is written anew. Assumes nothing.
+-- `on_left` meets its contract: of an alt the side alone remains, any other pair is built anew. Assumes nothing.
 use Rattle.room_pairs.proofs.Pairing.{left-alone, left-replaced}
 use Rattle.room_pairs.proofs.on_left.Statement.{statement}
 use Rattle.room_pairs.proofs.on_left.Tie as tie

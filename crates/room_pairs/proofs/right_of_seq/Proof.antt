@@ -1,4 +1,4 @@
--- `right_of_seq` meets its contract: with a follow-up on the right the left is pruned, and with none it is asked
+-- `right_of_seq` meets its contract: if the right has a follow-up, the left is pruned; if not, the left is asked
 -- whether it evades the lifeline. Assumes nothing.
 use mathlib.Core.Path.{refl, sym, _∙_}
 use Rattle.node_spec.proofs.Ranges.{seq-is-four}

@@ -1,4 +1,4 @@
--- `add` meets its contract: where the room has a place left it is written, and a full room is counted as exceeded.
+-- `add` meets its contract: if the room has a place left, it is written; a full room is counted as exceeded.
 -- Assumes nothing.
 use mathlib.Core.Path.{ap, sym}
 use native.Mathlib.Omega.{arith}

@@ -1,4 +1,4 @@
--- `prune` meets its contract: at each kind what is left is what pruning leaves, from what is left of the parts.
+-- `prune` meets its contract: for each kind, what is left of the parts gives what pruning leaves.
 -- Assumes nothing.
 use mathlib.Core.Path.{_≡_, refl, _∙_}
 use native.Mathlib.Omega.{arith}

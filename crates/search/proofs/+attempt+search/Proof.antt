@@ -1,5 +1,5 @@
--- `search` and `attempt` meet their contracts. The log falls at each call of `attempt`, and `attempt` goes on with the
--- log that it was given; the occurrences left fall at each turn of the loop. Assumes nothing.
+-- `search` and `attempt` meet their contracts. The log gets shorter at each call of `attempt`, and `attempt` goes on
+-- with the log that it was given; the occurrences left get fewer at each turn of the loop. Assumes nothing.
 use Prim.Native.Nat.{ℕ, _*_, _+_, _-_, _<_}
 use Prim.Native.Nat.{ℕ, _<_}
 use mathlib.Core.List.{[], _∷_}
@@ -104,7 +104,7 @@ module _ (t : ℕ) where
     larger-reads.Learnt,
   )
 
-  -- The search, its first action read.
+  -- The search, after its first action was read.
   abbrev task : search-lts.After-rest search-claims search-at search′.Post search-Inv-loop search-μ-loop → Task
   task c =
       let s = c .before .before .before .before .before in

@@ -1,4 +1,4 @@
--- `at_end` meets its contract: what it answers is asked of the chart. Assumes nothing.
+-- `at_end` meets its contract: it accepts exactly if the chart terminates. Assumes nothing.
 use mathlib.Core.Path.{sym, _∙_}
 use Rattle.search.proofs.at_end.Statement.{statement}
 use Rattle.search.proofs.at_end.Tie as tie

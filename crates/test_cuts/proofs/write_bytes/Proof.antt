@@ -1,4 +1,4 @@
--- `write_bytes` is safe and ends: as many turns as there are bytes. Assumes nothing.
+-- `write_bytes` is safe and ends: it takes as many turns as there are bytes. Assumes nothing.
 use Prim.Native.Nat.{_-_, _≤_}
 use native.Mathlib.Omega.{arith}
 use borrow.Author.Needs.{needs}

@@ -1,4 +1,4 @@
--- `depth` ends, and a chart is no deeper than its place is high. Assumes nothing.
+-- `depth` ends, and the depth of a chart is at most its place number plus one. Assumes nothing.
 use mathlib.Core.Path.{_≡_}
 use native.Mathlib.Omega.{arith}
 use Rattle.room_spec.proofs.Apart.{Reading, left-lower, right-lower, body-lower}

@@ -1,4 +1,4 @@
--- `ask` finds the part where it stood: pruning builds above it. Assumes nothing.
+-- `ask` finds the part where it stood, since pruning builds above it. Assumes nothing.
 use mathlib.Core.Path.{_∙_}
 use native.Mathlib.Omega.{arith}
 use Rattle.room_spec.specs.Room.{chartIn}

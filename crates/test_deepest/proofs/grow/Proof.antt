@@ -1,4 +1,4 @@
--- `grow` goes from a part that stands in the room to its follow-up, and stays where there is none. Assumes nothing.
+-- `grow` goes from a part that stands in the room to its follow-up, and stays there if there is none. Assumes nothing.
 use Prim.Native.Nat.{_≤_, _<_, _-_}
 use mathlib.Core.List.{List}
 use mathlib.Core.Path.{_≡_, refl, _∙_}

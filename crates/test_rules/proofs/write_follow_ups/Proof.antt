@@ -25,7 +25,7 @@ asked c =
     let s = c .before .before .args in
     follows (chartIn (c .loop .room) (s .place)) (actionOf (s .action))
 
--- What is in use is kept by one more of them.
+-- One more follow-up keeps what is in use.
 still-kept : (c : tie.After-execute Inv-loop μ-loop)
     → Kept (c .before .before .before .before .before .args .used)
     (c .before .before .before .before .before .args .room .now) (c .execute .last .0)

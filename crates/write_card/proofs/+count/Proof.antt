@@ -1,4 +1,4 @@
--- `count` meets its contract: at each kind the answer is the chart's size, from the answers at its parts.
+-- `count` meets its contract: for each kind, the answers at the parts give the size of the chart.
 -- Assumes nothing.
 use mathlib.Core.Path.{_≡_, sym}
 use native.Mathlib.Omega.{arith}

@@ -1,4 +1,4 @@
--- `write` meets its contract: at each kind what is written is the chart's nodes, from what is written of its parts.
+-- `write` meets its contract: for each kind, what is written of the parts gives what is written of the chart.
 -- Assumes nothing.
 use mathlib.Core.Logic.{⊎-elim}
 use mathlib.Core.Path.{_≡_, _∙_}

@@ -1,4 +1,4 @@
--- `write_card` meets its contract: the nodes from number 0 on, and the trailer behind them. Assumes nothing.
+-- `write_card` meets its contract: the nodes from number 0 on, and the trailer after them. Assumes nothing.
 use mathlib.Core.Path.{_∙_}
 use native.Mathlib.Omega.{arith}
 use borrow.Author.Needs.{needs}

@@ -1,4 +1,4 @@
--- `Node::pack` meets its contract: two shifts with a mask each, by the law over the width. Assumes nothing.
+-- `Node::pack` meets its contract: two shifts, each with a mask, by one law for every width. Assumes nothing.
 use Prim.Native.Nat.{_^_, _%_, _<_}
 use native.Mathlib.Omega.{arith}
 use lib.Bits.{and-mask}
