@@ -9,7 +9,7 @@ use Rattle.bench_spec.specs.declared.Content.the-variants.{Bytes, Nothin
 use Rattle.bench_spec.specs.declared.Turn.{Turn}
 use Rattle.bench_spec.specs.declared.Turn.the-variants.{On, Ended}
 
--- So many bytes were read; they are all that fit, or not. (whether they are)
+-- So many bytes were read. The first argument says whether they are all that fit.
 abbrev pub soFar : Bool → ℕ → Turn
 soFar true read = Ended (Bytes read)
 soFar false read = On read

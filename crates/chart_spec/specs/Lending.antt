@@ -61,7 +61,8 @@ module _ (allowance room : ℕ) where
   walk [] c used steps places = cond (terminates c) (found steps places) (failed 0 steps places)
   walk (a ∷ t) c used steps places = attempts (λ x n s p. walk t x n s p) used (follows c a) steps places
 
--- A log that was not accepted: 22 deviates if no path got through the whole log, else 21 short. (whether none did)
+-- A log that was not accepted: 22 deviates if no path got through the whole log, else 21 short. The argument says
+-- whether none did.
 abbrev pub unaccepted : Bool → ℕ
 unaccepted true = 22
 unaccepted false = 21
