@@ -18,6 +18,11 @@
 #include <stddef.h>
 #include <stdint.h>
 
+#define AIRPISTIL_VERSION_MAJOR 1
+#define AIRPISTIL_VERSION_MINOR 0
+#define AIRPISTIL_VERSION_PATCH 0
+#define AIRPISTIL_VERSION (AIRPISTIL_VERSION_MAJOR * 10000 + AIRPISTIL_VERSION_MINOR * 100 + AIRPISTIL_VERSION_PATCH)
+
 #ifdef __cplusplus
 extern "C" {
 #endif
@@ -44,6 +49,8 @@ struct airpistil_checked {
     uint32_t depth;
     uint32_t lifelines;
 };
+
+uint32_t airpistil_version(void);
 
 /* Checks the card of len bytes. */
 struct airpistil_checked airpistil_check(const uint8_t *card, size_t len);
