@@ -30,18 +30,21 @@ int main(void)
 {
     struct airpistil_checked checked = airpistil_check(card, sizeof card);
     struct airpistil_judged judged = judge(log_bytes, sizeof log_bytes);
-    struct airpistil_judged empty = judge(NULL, 0);
-    struct airpistil_judged nowhere = airpistil_judge(card, sizeof card, NULL, 0, 1000000, NULL, 0);
-    struct airpistil_checked nothing = airpistil_check(NULL, 0);
-    struct airpistil_cut_answer cut = airpistil_cut(NULL, 0, 0, NULL, 0);
 
     expect("version", airpistil_version() == AIRPISTIL_VERSION);
-    expect("check", checked.number == AIRPISTIL_OK && checked.nodes == 3 && checked.depth == 2 && checked.lifelines == 2);
-    expect("judge", judged.number == AIRPISTIL_ACCEPTED && judged.place == 2 && judged.steps == 2 && judged.places == 6);
-    expect("judge, empty log", empty.number == AIRPISTIL_SHORT && empty.place == 0 && empty.steps == 0 && empty.places == 3);
-    expect("judge, no room", nowhere.number == AIRPISTIL_ROOM_EXCEEDED && nowhere.steps == 0 && nowhere.places == 0);
-    expect("check, empty card", nothing.number == AIRPISTIL_CARD_FRAME && nothing.place == 0 && nothing.nodes == 0);
-    expect("cut, empty card", cut.number == AIRPISTIL_CARD_FRAME && cut.place == 0 && cut.length == 0);
-    expect("note, empty card", airpistil_note(NULL, 0) == 0);
+    expect("check", checked.number == AIRPISTIL_OK && checked.place == 0);
+    expect("figures of a card", checked.nodes == 3 && checked.depth == 2 && checked.lifelines == 2);
+    expect("judge", judged.number == AIRPISTIL_ACCEPTED && judged.place == 2);
+    expect("figures of a judgment", judged.steps == 2 && judged.places == 6);
+
+    /* Null pointers with length 0. */
+    judged = judge(NULL, 0);
+    expect("the empty log", judged.number == AIRPISTIL_SHORT && judged.place == 0 && judged.places == 3);
+    judged = airpistil_judge(card, sizeof card, log_bytes, sizeof log_bytes, 1000000, NULL, 0);
+    expect("no room", judged.number == AIRPISTIL_ROOM_EXCEEDED && judged.steps == 0 && judged.places == 0);
+    expect("check, no card", airpistil_check(NULL, 0).number == AIRPISTIL_CARD_FRAME);
+    expect("note, no card", airpistil_note(NULL, 0) == 0);
+    expect("cut, no card", airpistil_cut(NULL, 0, 0, NULL, 0).number == AIRPISTIL_CARD_FRAME);
+    expect("cut, no output", airpistil_cut(card, sizeof card, 5, NULL, 0).number == AIRPISTIL_UNDECLARED_LIFELINE);
     return wrong;
 }
