@@ -413,8 +413,8 @@ fn only_16384_numbers_are_usable() {
     assert_eq!(lent(chart, &long, AMPLE, 2 * USABLE), exact);
 }
 
-/// The chart that grows some 290 deep: 64 rounds of the parallel loop begin, and
-/// then every 0!0 first tries the 6,400 actions that the rounds still owe.
+/// A chart that grows 75 deep: 64 rounds of the parallel loop begin, and then every
+/// 0!0 first tries the 6,400 actions that the rounds still owe.
 fn deep_chart() -> Vec<Node> {
     let owed = pairs(PAR, &vec![emission(0, 0); 100]);
     let rounds = looped(PARALLEL_LOOP, pair(STRICT, emission(1, 0), owed));
