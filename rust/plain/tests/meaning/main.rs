@@ -78,7 +78,7 @@ impl Subject {
     }
 }
 
-/// All actions that can be declared.
+/// All actions that are declared.
 fn all_entries(declared: Declared) -> impl Iterator<Item = Entry> {
     let whos = 0..2 * declared.lifelines;
     whos.flat_map(move |who| (0..declared.messages).map(move |message| [who, message]))
