@@ -13,15 +13,15 @@ struct Answer {
     note_length: usize,
 }
 
-/// Compares at least so many cards.
+/// Compares at least `cards` cards.
 pub fn run(random: &mut Random, cards: usize) -> Result<(), String> {
     // 0 for a sound card, 1 to 6 for a refusal.
     let mut tally = Tally::new("cards", 0..=6);
     run::run(random, &FAMILIES, cards, compare_card, &mut tally)
 }
 
-/// Asks both programs on one card; gives the number they agree on. It must also
-/// be the one that the card was made for: the two might be wrong alike.
+/// Asks both programs about one card and returns the number they agree on. It must
+/// also be the one that the card was made for: both might be wrong in the same way.
 fn compare_card(_: &mut Random, card: &Card) -> Result<u32, String> {
     let bytes = &card.bytes;
     let plain = Answer {

@@ -14,7 +14,7 @@ use crate::run::{self, Tally, first_difference};
 use families::FAMILIES;
 use question::Question;
 
-/// So many bytes stand before and behind each output, and are to stay.
+/// How many bytes stand before and behind each output. They must stay as they are.
 const MARGIN: usize = 16;
 
 type Cut = fn(&[u8], u32, &mut [u8]) -> CutAnswer;
@@ -26,14 +26,14 @@ struct Answer {
     bytes: Vec<u8>,
 }
 
-/// Compares at least so many cuts.
+/// Compares at least `cuts` cuts.
 pub fn run(random: &mut Random, cuts: usize) -> Result<(), String> {
     let mut tally = Tally::new("cuts", (0..=6).chain(11..=13));
     run::run(random, &FAMILIES, cuts, compare_cut, &mut tally)
 }
 
-/// Asks both programs on an output of garbage; gives the number they agree on.
-/// Both must also keep to what is foreseen: the two might be wrong alike.
+/// Asks both programs with garbage in the output and returns the number they agree
+/// on. It must also be as foreseen: both might be wrong in the same way.
 fn compare_cut(random: &mut Random, question: &Question) -> Result<u32, String> {
     let found = random.bytes(question.output + 2 * MARGIN);
     let plain = ask(plain::cut, question, &found);
@@ -44,7 +44,7 @@ fn compare_cut(random: &mut Random, question: &Question) -> Result<u32, String> 
     }
 }
 
-/// Asks one program, on the garbage found in the output.
+/// Asks one program, with the garbage `found` in the output.
 fn ask(cut: Cut, question: &Question, found: &[u8]) -> Answer {
     let mut bytes = found.to_vec();
     let out = &mut bytes[MARGIN..MARGIN + question.output];
@@ -57,7 +57,7 @@ fn check(question: &Question, found: &[u8], plain: &Answer, proved: &Answer) -> 
     if plain != proved {
         return Err("a difference".to_string());
     }
-    // "Output bytes beyond it stay", all of them if a refusal has length 0.
+    // "Output bytes beyond it stay": all of them after a refusal, which has length 0.
     let Answer { cut, bytes } = plain;
     let end = MARGIN + cut.length as usize;
     if bytes[..MARGIN] != found[..MARGIN] || bytes[end..] != found[end..] {

@@ -1,4 +1,4 @@
-//! The families of judgments on which both programs are asked.
+//! The families of judgments that both programs are asked about.
 
 use generate::charts::looped;
 use generate::draft::Draft;
@@ -35,11 +35,11 @@ const VERDICTS: &[u32] = &[20, 21, 22];
 const NO_DEVIATION: &[u32] = &[20, 21];
 const ACCEPTED: &[u32] = &[20];
 
-/// Steps that are ample for most logs; and those for a search that is to be long.
+/// Steps that are ample for most logs, and steps for a search that is to be long.
 const AMPLE: u32 = 300;
 const LONG: u32 = 20_000;
 
-/// The questions on some cases.
+/// The questions about some cases.
 fn cases(random: &mut Random, make: fn(&mut Random) -> Case) -> Vec<Question> {
     let mut questions = Vec::new();
     for _ in 0..20 {
@@ -58,7 +58,7 @@ fn case(draft: Draft, log: Vec<Entry>, verdicts: &'static [u32]) -> Case {
     }
 }
 
-/// A case whose log is made by executing the chart, at least so many actions.
+/// A case whose log is made by executing the chart, at least `least` actions.
 fn by_execution(random: &mut Random, draft: Draft, least: usize) -> Case {
     let Executed { log, finished } = execute(random, &draft, least);
     case(draft, log, if finished { ACCEPTED } else { NO_DEVIATION })
@@ -124,7 +124,7 @@ fn empty(random: &mut Random) -> Vec<Question> {
     })
 }
 
-/// Every nesting of two kinds, with a log each.
+/// Every nesting of two kinds, each with a log.
 fn nestings(random: &mut Random) -> Vec<Question> {
     let mut questions = Vec::new();
     for draft in subjects::nestings(random) {
@@ -135,7 +135,7 @@ fn nestings(random: &mut Random) -> Vec<Question> {
     questions
 }
 
-/// A log made by executing the chart, at least so many actions, as it is or with
+/// A log made by executing the chart, at least `least` actions, as it is or with
 /// one change.
 fn maybe_changed(random: &mut Random, draft: Draft, least: usize) -> Case {
     let made = by_execution(random, draft, least);
@@ -155,7 +155,7 @@ fn nested_loops(random: &mut Random) -> Vec<Question> {
     })
 }
 
-/// 0!0 up to some times, and sometimes 0?0 at the end.
+/// 0!0 up to `most` times, sometimes with 0?0 at the end.
 fn again(random: &mut Random, most: usize) -> Vec<Entry> {
     let mut log = vec![[0, 0]; random.within(1..=most)];
     if random.one_in(2) {
@@ -183,7 +183,7 @@ fn long_searches(random: &mut Random) -> Vec<Question> {
     lend(random, &made)
 }
 
-/// Logs of up to 128 actions to a loop of any kind.
+/// Logs of up to 128 actions for a loop of any kind.
 fn long_logs(random: &mut Random) -> Vec<Question> {
     let Draft {
         nodes,

@@ -8,7 +8,8 @@ use crate::families::FAMILIES;
 use crate::question::Question;
 use crate::run::{self, Tally, first_difference};
 
-/// So many numbers stand before and behind each lent room, and are to stay.
+/// How many numbers stand before and behind each lent room. They must stay as they
+/// are.
 const MARGIN: usize = 4;
 
 type Judge = fn(&[u8], &[u8], u32, &mut [u32]) -> Judged;
@@ -20,14 +21,14 @@ struct Answer {
     room: Vec<u32>,
 }
 
-/// Compares at least so many judgments.
+/// Compares at least `judgments` judgments.
 pub fn run(random: &mut Random, judgments: usize) -> Result<(), String> {
     let mut tally = Tally::new("judgments", (1..=10).chain(20..=22));
     run::run(random, &FAMILIES, judgments, compare_judgment, &mut tally)
 }
 
-/// Asks both programs on a room of garbage; gives the number they agree on. Both
-/// must also keep to what is foreseen: the two might be wrong alike.
+/// Asks both programs with garbage in the room and returns the number they agree on.
+/// It must also be as foreseen: both might be wrong in the same way.
 fn compare_judgment(random: &mut Random, question: &Question) -> Result<u32, String> {
     let found = random.words(question.room + 2 * MARGIN);
     let plain = ask(plain::judge, question, &found);
@@ -54,7 +55,7 @@ fn report(question: &Question, plain: &Answer, proved: &Answer) -> String {
     lines.join("\n")
 }
 
-/// Asks one program, on the garbage found in the room.
+/// Asks one program, with the garbage `found` in the room.
 fn ask(judge: Judge, question: &Question, found: &[u32]) -> Answer {
     let mut room = found.to_vec();
     let lent = &mut room[MARGIN..MARGIN + question.room];
@@ -62,7 +63,8 @@ fn ask(judge: Judge, question: &Question, found: &[u32]) -> Answer {
     Answer { judged, room }
 }
 
-/// What the room is to be: with 1 to 8 as found, else its usable part zeroed.
+/// What the room must be afterwards: with 1 to 8 as found, otherwise with its usable
+/// part zeroed.
 fn room_after(question: &Question, found: Vec<u32>, number: u32) -> Vec<u32> {
     let mut room = found;
     if number > 8 {

@@ -1,4 +1,4 @@
-//! Lends to one card and log: amply, exactly the two figures, and around them.
+//! Lendings for one card and log: an ample one, exactly the two figures, and others around them.
 
 use generate::draft::Draft;
 use generate::logs::Entry;
@@ -13,22 +13,22 @@ use crate::subjects::lengthen;
 const OTHERS: usize = 4;
 const MANY_STEPS: u32 = 100;
 
-/// A sound card and a sound log to it.
+/// A sound card and a sound log for it.
 pub struct Case {
     pub draft: Draft,
     pub log: Vec<Entry>,
     /// The verdicts that may come with an ample lending.
     pub verdicts: &'static [u32],
-    /// The ample allowance: longer searches are to end in 9.
+    /// The ample allowance: longer searches end in 9.
     pub ample: u32,
 }
 
-/// What is lent: steps and numbers of room.
+/// What is lent: how many steps, and how many numbers of room.
 type Lending = (u32, usize);
 
-/// Asks with an ample lending, and by the figures that the plain program gives
-/// for it: with exactly these the verdict is the same, with less it is 9 or 10.
-/// What follows a deviation changes nothing.
+/// Asks with an ample lending, and with others by the figures that the plain program
+/// gives for it: with exactly these figures the verdict is the same, with less it is
+/// 9 or 10. What follows a deviation changes nothing.
 pub fn lend(random: &mut Random, case: &Case) -> Vec<Question> {
     let card = case.draft.bytes();
     let log = case.log.as_flattened();
@@ -48,7 +48,7 @@ pub fn lend(random: &mut Random, case: &Case) -> Vec<Question> {
     questions
 }
 
-/// The ample lending. A verdict that comes is one of those that may come.
+/// Asks with the ample lending. If a verdict comes, it is one of those that may come.
 fn ask_amply(case: &Case) -> Question {
     let foreseen = Foreseen::Numbers([case.verdicts, &[9, 10]].concat());
     question(case, (case.ample, MOST_USABLE), foreseen)
@@ -68,7 +68,7 @@ fn question(case: &Case, (allowance, room): Lending, foreseen: Foreseen) -> Ques
     }
 }
 
-/// What a lending gives, by the answer to the ample one.
+/// What a lending must give, by the answer to the ample one.
 fn foresee(case: &Case, ample: &Judged, (allowance, room): Lending) -> Foreseen {
     let usable = room.min(MOST_USABLE);
     if usable < case.draft.nodes.len() {

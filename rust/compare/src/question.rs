@@ -17,7 +17,7 @@ pub struct Question {
     pub foreseen: Foreseen,
 }
 
-/// What the maker of a question knows of the answer.
+/// What the maker of a question knows about the answer.
 #[derive(Debug, Clone)]
 pub enum Foreseen {
     Nothing,
@@ -37,7 +37,7 @@ impl Foreseen {
     }
 }
 
-/// An answer of number and place with zero figures.
+/// An answer with this number and place, and zero figures.
 pub fn refused(number: u32, place: usize) -> Judged {
     Judged {
         number,
@@ -52,7 +52,7 @@ impl Question {
         self.room.min(MOST_USABLE)
     }
 
-    /// Whether an answer is as foreseen and as the table says of its number.
+    /// Whether an answer is as foreseen, and as the table says for its number.
     pub fn allows(&self, answer: Judged) -> bool {
         let Judged {
             number,

@@ -1,19 +1,19 @@
-//! Asks both programs on the inputs of all families and counts the answers.
+//! Runs both programs on the inputs of all families and counts the answers.
 
 use std::collections::BTreeMap;
 
 use generate::family::Family;
 use generate::random::Random;
 
-/// At least so many answers of each number are wanted in each call that can give
-/// it, unless few inputs are asked for.
+/// Each number must be answered at least this often in each call that can give it,
+/// unless few inputs are asked for.
 const LEAST: usize = 1_000;
 
-/// How one input is compared: gives the number that both programs answer, or
-/// says what is wrong.
+/// Compares one input: returns the number that both programs answer, or says what is
+/// wrong.
 pub type Compare<T> = fn(&mut Random, &T) -> Result<u32, String>;
 
-/// Compares at least so many inputs and prints what was compared; the error says
+/// Compares at least `asked` inputs and prints what was compared; the error says
 /// on which input the programs differ, or why the comparison shows too little.
 pub fn run<T>(
     random: &mut Random,
@@ -63,7 +63,7 @@ pub struct Tally {
 }
 
 impl Tally {
-    /// All these numbers are to come up, and no other.
+    /// All these numbers must come up, and no other.
     pub fn new(what: &'static str, numbers: impl IntoIterator<Item = u32>) -> Tally {
         let numbers = numbers.into_iter().map(|number| (number, 0)).collect();
         Tally { what, numbers }
@@ -98,14 +98,14 @@ impl Tally {
     }
 }
 
-/// How many answers of each number are wanted if so many inputs are asked for:
-/// with few inputs one for each hundred of them, and always one.
+/// How often each number must be answered if `asked` inputs are asked for: with few
+/// inputs once for each hundred of them, and always once.
 fn least(asked: usize) -> usize {
     (asked / 100).clamp(1, LEAST)
 }
 
-/// Where what was lent to both programs first differs, counted from behind the
-/// margin before it.
+/// The first position at which what was lent to the two programs differs, counted
+/// from the end of the margin before it.
 pub fn first_difference<T: PartialEq>(plain: &[T], proved: &[T], margin: usize) -> Option<isize> {
     let mut both = plain.iter().zip(proved);
     let position = both.position(|(plain, proved)| plain != proved)?;

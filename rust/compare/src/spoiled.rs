@@ -11,7 +11,7 @@ use crate::lending::{Case, large_room};
 use crate::question::{Foreseen, Question, refused};
 use crate::subjects::{self, any_entry, any_log};
 
-/// A batch of spoiled cards has at least so many of each number.
+/// A batch of spoiled cards has at least this many for each number.
 const OF_EACH_NUMBER: usize = 26;
 
 /// A question with any lending, small or large.
@@ -27,7 +27,7 @@ fn any_lending(random: &mut Random, card: Vec<u8>, log: Vec<u8>, foreseen: Fores
     }
 }
 
-/// Every way to spoil a log, each to a sound card.
+/// Every way to spoil a log, each with a sound card.
 pub fn spoiled_logs(random: &mut Random) -> Vec<Question> {
     let mut questions = Vec::new();
     for spoil in SPOILS.repeat(5) {
@@ -41,7 +41,7 @@ pub fn spoiled_logs(random: &mut Random) -> Vec<Question> {
     questions
 }
 
-/// Spoils a log, which is not empty: gives its bytes, and number and place of the
+/// Spoils a log that is not empty: returns its bytes, and the number and place of the
 /// refusal.
 type Spoil = fn(&mut Random, &Draft, Vec<Entry>) -> Spoiled;
 type Spoiled = (Vec<u8>, u32, usize);
@@ -70,7 +70,7 @@ fn too_long(random: &mut Random, draft: &Draft, _: Vec<Entry>) -> Spoiled {
     (any_log(random, draft, length).concat(), 7, 0)
 }
 
-/// One action not declared, and sometimes more behind it.
+/// One action that is not declared, and sometimes more after it.
 fn undeclared(random: &mut Random, draft: &Draft, log: Vec<Entry>) -> Spoiled {
     let lowest = random.below(log.len());
     let mut log = log;
@@ -109,7 +109,8 @@ fn undeclared_entry(random: &mut Random, draft: &Draft) -> Entry {
     random.pick(&[[stranger, message], [who, beyond], [stranger, beyond]])
 }
 
-/// Every fault of a card, and every number often, each with a log of any bytes.
+/// Cards with every fault, so that every number comes up often, each with a log of
+/// any bytes.
 pub fn spoiled_cards(random: &mut Random) -> Vec<Question> {
     let mut questions = Vec::new();
     for fault in faults::of_each_number(OF_EACH_NUMBER) {
@@ -130,8 +131,8 @@ pub fn spoiled_cards(random: &mut Random) -> Vec<Question> {
     questions
 }
 
-/// Cards with one byte changed, some of them still sound, with a log to the
-/// card before.
+/// Cards with one byte changed, some of them still sound, each with a log for the
+/// card before the change.
 pub fn damaged_cards(random: &mut Random) -> Vec<Question> {
     let mut questions = Vec::new();
     for _ in 0..50 {

@@ -1,4 +1,4 @@
-//! Charts to judge by, and logs to them.
+//! Charts to judge by, and logs for them.
 
 use std::ops::RangeInclusive;
 
@@ -43,7 +43,7 @@ pub fn large(random: &mut Random) -> Draft {
     with_actions(random, |random| sound::sized(random, size))
 }
 
-/// Draws charts until one has an action, or now and then one without any.
+/// Draws charts until one has an action; now and then one without any will do.
 fn with_actions(random: &mut Random, mut draw: impl FnMut(&mut Random) -> Draft) -> Draft {
     loop {
         let draft = draw(random);
@@ -78,7 +78,7 @@ fn part(random: &mut Random, kind: u8) -> Vec<Node> {
     }
 }
 
-/// Loops in one another, with pairs between them, at most 13 deep.
+/// Nested loops, with pairs between them, at most 13 deep.
 pub fn nested_loops(random: &mut Random) -> Draft {
     let mut nodes = leaf(random);
     for _ in 0..random.within(2..=6) {
@@ -90,7 +90,7 @@ pub fn nested_loops(random: &mut Random) -> Draft {
     Draft::new(nodes, 2, 2)
 }
 
-/// A pair of the nodes and a leaf, in any order.
+/// A pair of the nodes and a leaf, in either order.
 fn with_leaf(random: &mut Random, nodes: Vec<Node>) -> Vec<Node> {
     let kind = random.within(3..=6) as u8;
     let leaf = leaf(random);
@@ -153,14 +153,14 @@ pub fn any_log(random: &mut Random, draft: &Draft, length: usize) -> Vec<Entry> 
     (0..length).map(|_| likely_entry(random, draft)).collect()
 }
 
-/// The log and at least one more action, if it is not the longest.
+/// The log and at least one more action, unless it already has the most.
 pub fn lengthen(random: &mut Random, draft: &Draft, log: &[Entry]) -> Vec<Entry> {
     let room = MOST_ACTIONS - log.len();
     let more = random.edge(room.min(1)..=room);
     [log, &any_log(random, draft, more)].concat()
 }
 
-/// The log with two neighbours swapped, which most often differ.
+/// The log with two different neighbours swapped, if it has any.
 pub fn swap(random: &mut Random, log: &[Entry]) -> Vec<Entry> {
     let mut log = log.to_vec();
     let apart: Vec<usize> = (1..log.len())
@@ -173,7 +173,7 @@ pub fn swap(random: &mut Random, log: &[Entry]) -> Vec<Entry> {
     log
 }
 
-/// The log with one action dropped, put in, or set to another one.
+/// The log with one action dropped, inserted or replaced.
 pub fn change(random: &mut Random, draft: &Draft, log: &[Entry]) -> Vec<Entry> {
     let mut log = log.to_vec();
     let at = random.below(log.len().max(1));

@@ -1,4 +1,4 @@
-//! The families of cards on which both programs are asked.
+//! The families of cards that both programs are asked about.
 
 use crate::draft::{Draft, LARGEST_CARD, LARGEST_DEPTH, MARK, MOST_NODES, Node, TRAILER};
 use crate::family::Family;
@@ -45,8 +45,8 @@ fn any_shape(random: &mut Random) -> Vec<Card> {
     (0..100).map(|_| card(&sound::any(random), 0)).collect()
 }
 
-/// Cards that reach a limit exactly, the card of one node more, and cards that
-/// name one node as a child as often as can be.
+/// Cards that reach a limit exactly, a card with one node too many, and cards that
+/// name one node as a child more than once, up to as often as possible.
 fn limits(random: &mut Random) -> Vec<Card> {
     let mut cards = Vec::new();
     for size in [1, 2, MOST_NODES - 1, MOST_NODES] {
@@ -71,8 +71,8 @@ fn filled(random: &mut Random, size: usize) -> Draft {
     draft
 }
 
-/// A sound card in which all of 16 lifelines act, with messages down from the
-/// last of 64. It has at least 16 leaves, since 255 nodes are at most 16 deep.
+/// A sound card in which all of 16 lifelines act, with messages counted down from the
+/// last of 64. It has at least 16 leaves, since its 255 nodes are at most 16 deep.
 fn all_acting(random: &mut Random) -> Draft {
     let mut draft = sound::sized(random, MOST_NODES);
     draft.lifelines = 16;
@@ -87,8 +87,8 @@ fn all_acting(random: &mut Random) -> Draft {
     draft
 }
 
-/// Parents that name node 0 so many times in all: a count of one byte would
-/// wrap, and might take 257 times for once.
+/// Parents that name node 0 `times` times in all. A count of one byte would wrap, and
+/// might take 257 times for once.
 fn named_often(times: usize) -> Vec<Node> {
     let mut nodes = vec![[0; 4]];
     nodes.extend(vec![[3, 0, 0, 0]; times / 2]);
@@ -97,16 +97,16 @@ fn named_often(times: usize) -> Vec<Node> {
 }
 
 /// Pairs that name the node below on both sides. The ways down double with each
-/// node, so a reader that follows them before it counts children never ends.
+/// node, so a check that follows them before it counts children never ends.
 fn ladder(size: usize) -> Vec<Node> {
     let pair = |below| [4, below, below, 0];
     let pairs = (0..size as u8 - 1).map(pair);
     std::iter::once([0; 4]).chain(pairs).collect()
 }
 
-/// A sound card into which all these faults fit, with them. The lowest number
-/// goes in last and is the one given; only a second fault of number 5 might
-/// mend the first, by naming the child that was left without a parent.
+/// A sound card that all these faults can be put into, with the faults put in. The
+/// lowest number goes in last and is the one given. Only a second fault of number 5
+/// might mend the first, by naming the child that was left without a parent.
 pub fn with_faults(random: &mut Random, faults: &[Fault]) -> Card {
     let mut falling = faults.to_vec();
     falling.sort_by_key(|fault| std::cmp::Reverse(fault.number()));
@@ -154,8 +154,8 @@ fn three_faults(random: &mut Random) -> Vec<Card> {
         .collect()
 }
 
-/// Sound cards with one byte changed, for every position: small cards with four
-/// other values each, one larger card with one other value each.
+/// Sound cards with one byte changed, at every position: small cards with four other
+/// values at each, and one larger card with one other value at each.
 fn damaged(random: &mut Random) -> Vec<Card> {
     let mut cards = Vec::new();
     for _ in 0..10 {
@@ -244,7 +244,7 @@ fn tree_of_depth(nodes: Vec<Node>, depth: usize) -> Card {
     card(&Draft::new(nodes, 1, 1), expected)
 }
 
-/// Loops in one another around an empty or an action.
+/// Nested loops around an empty or an action.
 fn chain(random: &mut Random, depth: usize) -> Vec<Node> {
     let mut nodes = vec![[random.within(0..=2) as u8, 0, 0, 0]];
     while nodes.len() < depth {
@@ -254,8 +254,8 @@ fn chain(random: &mut Random, depth: usize) -> Vec<Node> {
     nodes
 }
 
-/// Pairs in one another. Of each pair the other side is a leaf; `sides` says how
-/// often the deep side is the left one and how often the right one.
+/// Nested pairs. Each has a leaf on one side; `sides` says how often the deep side is
+/// the left one and how often the right one.
 fn comb(random: &mut Random, depth: usize, sides: [usize; 2]) -> Vec<Node> {
     let mut nodes = vec![[random.within(0..=2) as u8, 0, 0, 0]];
     for _ in 1..depth {
@@ -273,7 +273,7 @@ fn comb(random: &mut Random, depth: usize, sides: [usize; 2]) -> Vec<Node> {
 }
 
 /// Every length around 6 and around 4,096: zeros, random bytes, random bytes
-/// with a right mark, and the tail of a sound card behind random bytes.
+/// with a right mark, and random bytes with the tail of a sound card behind them.
 fn lengths(random: &mut Random) -> Vec<Card> {
     let mut cards = Vec::new();
     for length in (0..=40).chain(4080..=4100) {
@@ -287,7 +287,8 @@ fn lengths(random: &mut Random) -> Vec<Card> {
     cards
 }
 
-/// So many bytes: the last ones of the tail, behind random bytes where it is short.
+/// `length` bytes: the last ones of the tail, with random bytes before them if the tail
+/// is too short.
 fn ending(random: &mut Random, tail: &[u8], length: usize) -> Vec<u8> {
     let mut bytes = random.bytes(length.saturating_sub(tail.len()));
     bytes.extend(&tail[tail.len().saturating_sub(length)..]);
@@ -306,8 +307,8 @@ fn random_bytes(random: &mut Random) -> Vec<Card> {
         .collect()
 }
 
-/// A few random nodes with small fields, so that many a card passes some of the
-/// checks and some cards pass all of them.
+/// A few random nodes with small fields, so that many cards pass some of the checks
+/// and some cards pass all of them.
 fn random_nodes(random: &mut Random) -> Vec<Card> {
     (0..20)
         .map(|_| {

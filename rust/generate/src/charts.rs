@@ -43,12 +43,12 @@ pub fn looped(kind: u8, body: Vec<Node>) -> Vec<Node> {
     nodes
 }
 
-/// S of the document: strict(0!0, 1?0).
+/// The document's S: strict(0!0, 1?0).
 pub fn s() -> Vec<Node> {
     pair(STRICT, emission(0, 0), reception(1, 0))
 }
 
-/// Pairs of one kind over all the parts, which are not none, as evenly as can be.
+/// Pairs of one kind over all the parts, at least one, divided as evenly as possible.
 pub fn pairs(kind: u8, parts: &[Vec<Node>]) -> Vec<Node> {
     match parts {
         [part] => part.clone(),
@@ -59,7 +59,7 @@ pub fn pairs(kind: u8, parts: &[Vec<Node>]) -> Vec<Node> {
     }
 }
 
-/// Puts a second tree behind the nodes, its children's numbers raised to fit.
+/// Puts a second tree behind the nodes, with its children's numbers raised to fit.
 pub fn put_behind(nodes: &mut Vec<Node>, second: Vec<Node>) {
     let first = nodes.len() as u8;
     for mut node in second {
@@ -69,7 +69,7 @@ pub fn put_behind(nodes: &mut Vec<Node>, second: Vec<Node>) {
 }
 
 /// The same tree in any order of nodes that keeps children lower than their
-/// parents: the highest number left goes to a node whose parent has its own.
+/// parents: the highest number left goes to a node whose parent already has one.
 pub fn reordered(random: &mut Random, nodes: &[Node]) -> Vec<Node> {
     let mut moved = nodes.to_vec();
     let mut numbers = vec![0; nodes.len()];

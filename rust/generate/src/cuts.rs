@@ -30,7 +30,7 @@ pub fn chart(random: &mut Random, device: Device) -> Made {
     made
 }
 
-/// A chart at most so deep.
+/// A chart at most `depth` deep.
 fn bushy(random: &mut Random, device: Device, depth: usize) -> Made {
     match random.below(8) {
         _ if depth == 1 => leaf(random, device),

@@ -16,7 +16,7 @@ pub struct Draft {
     pub lifelines: u8,
     pub messages: u8,
     pub mark: [u8; 2],
-    /// Only the card's last bytes are handed over, at most so many.
+    /// At most this many of the card's last bytes are handed over, and no others.
     pub keep: usize,
 }
 
@@ -68,8 +68,8 @@ impl Draft {
         bytes.split_off(bytes.len().saturating_sub(self.keep))
     }
 
-    /// The depth of a sound card. Children stand before their parents, so one
-    /// way through the nodes finds how deep each of them reaches down.
+    /// The depth of a sound card. Children stand before their parents, so one pass
+    /// over the nodes finds how deep the tree below each of them is.
     pub fn depth(&self) -> usize {
         let mut depths: Vec<usize> = Vec::new();
         for node in &self.nodes {

@@ -35,11 +35,11 @@ pub enum Fault {
     UnknownKind,
     /// A non-zero field that this kind does not use.
     Unused(u8, usize),
-    /// An undeclared lifeline (field a) or message (field b) of this kind.
+    /// An undeclared lifeline (field a) or message (field b) in a node of this kind.
     Undeclared(u8, usize),
-    /// A child of this kind, named by this field, that is the node itself.
+    /// A node of this kind whose child, named by this field, is the node itself.
     ChildItself(u8, usize),
-    /// A child of this kind, named by this field, that is higher.
+    /// A node of this kind whose child, named by this field, is higher.
     ChildHigher(u8, usize),
     ChildNever,
     ChildTwice,
@@ -72,8 +72,8 @@ pub fn all() -> Vec<Fault> {
     faults
 }
 
-/// All faults; those of a number that has few of them again and again, so that
-/// each number has at least so many.
+/// All faults, repeated where a number has few of them, so that each number has at
+/// least `least`.
 pub fn of_each_number(least: usize) -> Vec<Fault> {
     let mut faults = Vec::new();
     for number in 1..=6 {
@@ -86,7 +86,7 @@ pub fn of_each_number(least: usize) -> Vec<Fault> {
 }
 
 impl Fault {
-    /// The number that a card with this fault alone gives.
+    /// The number that a card with this fault alone gets.
     pub fn number(self) -> u32 {
         use Fault::*;
         match self {
@@ -99,11 +99,11 @@ impl Fault {
         }
     }
 
-    /// Puts the fault into a card, at a random node where it concerns a node.
-    /// False if the card has no room for it, such as no node of the kind.
+    /// Puts the fault into a card, at a random node if it concerns a node. Returns
+    /// false if the card cannot take it, for example without a node of the kind.
     ///
-    /// Of several faults the one with the lowest number is put in last, so that
-    /// none can undo the one that is to be given.
+    /// Of several faults, put in the one with the lowest number last: it is the one
+    /// to be given, and no other can then undo it.
     pub fn spoil(self, random: &mut Random, draft: &mut Draft) -> bool {
         use Fault::*;
         match self {
@@ -136,7 +136,7 @@ impl Fault {
     }
 }
 
-/// Lengthens the note at its front until the card has a size of the range.
+/// Lengthens the note at its front until the card has a size from the range.
 fn lengthen(random: &mut Random, draft: &mut Draft, sizes: RangeInclusive<usize>) {
     let size = random.edge(sizes);
     let missing = size.saturating_sub(draft.before() + TRAILER);
@@ -162,7 +162,7 @@ fn spoil_back_by_rule(random: &mut Random, draft: &mut Draft) {
 }
 
 /// A back distance that keeps the rule but is larger than the bytes before the
-/// trailer; a long note gives way to one that leaves such a distance.
+/// trailer. A note that is too long for such a distance is shortened.
 fn spoil_back_by_card(random: &mut Random, draft: &mut Draft) -> bool {
     if draft.before() / 4 >= MOST_NODES {
         draft.note.truncate(3);
@@ -202,7 +202,7 @@ fn spoil_declared(random: &mut Random, draft: &mut Draft, kind: u8, field: usize
     true
 }
 
-/// Lets a child's number be the node's own, or above it by a number of the range.
+/// Sets a child's number to the node's own plus a number from the range.
 fn spoil_child(
     random: &mut Random,
     draft: &mut Draft,
@@ -251,7 +251,7 @@ fn add_child(random: &mut Random, draft: &mut Draft) -> bool {
     true
 }
 
-/// Lets both sides of a pair be the same child.
+/// Makes both sides of a pair the same child.
 fn name_one_child(random: &mut Random, draft: &mut Draft) -> bool {
     let Some(number) = find(random, draft, PAIRS, 0) else {
         return false;
@@ -262,7 +262,7 @@ fn name_one_child(random: &mut Random, draft: &mut Draft) -> bool {
     true
 }
 
-/// Lets a parent name another lower node in place of its own child.
+/// Makes a parent name another lower node in place of its own child.
 fn name_other_child(random: &mut Random, draft: &mut Draft) -> bool {
     let Some(number) = find(random, draft, PARENTS, 2) else {
         return false;
@@ -274,7 +274,7 @@ fn name_other_child(random: &mut Random, draft: &mut Draft) -> bool {
     true
 }
 
-/// Puts a second sound tree behind the first, whose root is then nobody's child.
+/// Puts a second sound tree behind the first, whose root is then no node's child.
 fn put_beside(random: &mut Random, draft: &mut Draft) -> bool {
     let first = draft.nodes.len();
     if first >= MOST_NODES {
@@ -308,7 +308,7 @@ fn deepen(random: &mut Random, draft: &mut Draft) -> bool {
     fits(draft)
 }
 
-/// Whether the nodes are at most 255 and the card is not too long.
+/// Whether there are at most 255 nodes and the card is not too long.
 fn fits(draft: &Draft) -> bool {
     draft.nodes.len() <= MOST_NODES && draft.before() + TRAILER <= LARGEST_CARD
 }

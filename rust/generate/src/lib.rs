@@ -1,5 +1,5 @@
-//! Cards and logs on which the two libraries are compared and measured: made by
-//! a seeded generator, rightly or with faults.
+//! Cards and logs on which the two libraries are compared and measured. A seeded
+//! generator makes them, sound or with faults.
 //!
 //! - `random`: the generator.
 //! - `draft`: a card in the making.

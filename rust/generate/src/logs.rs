@@ -37,8 +37,8 @@ pub fn acts(log: &[Entry], lifeline: u8) -> bool {
     log.iter().any(|[who, _]| who / 2 == lifeline)
 }
 
-/// Executes a sound card's chart by actions drawn at random: at least so many,
-/// then until it terminates, and at most 128.
+/// Executes a sound card's chart by actions drawn at random: at least `least` of
+/// them, then until the chart terminates, and at most 128.
 pub fn execute(random: &mut Random, draft: &Draft, least: usize) -> Executed {
     let entries = acting(&draft.nodes);
     let bytes = draft.bytes();
@@ -60,8 +60,8 @@ pub fn execute(random: &mut Random, draft: &Draft, least: usize) -> Executed {
     }
 }
 
-/// Executes an occurrence of one of the actions: the first that has any, counted
-/// round from one drawn at random. Gives the action's number and the follow-up.
+/// Executes an occurrence of the first action that has any, going round from an
+/// action drawn at random. Returns the action's number and the follow-up.
 fn execute_one(
     random: &mut Random,
     chart: &Rc<Chart>,

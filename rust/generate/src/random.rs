@@ -18,27 +18,27 @@ impl Random {
         mixed ^ (mixed >> 31)
     }
 
-    /// A number below the limit, which is not 0.
+    /// A number below the limit. The limit must not be 0.
     pub fn below(&mut self, limit: usize) -> usize {
         (self.next() % limit as u64) as usize
     }
 
-    /// A number of the range, which is not empty.
+    /// A number from the range. The range must not be empty.
     pub fn within(&mut self, range: RangeInclusive<usize>) -> usize {
         range.start() + self.below(range.end() - range.start() + 1)
     }
 
-    /// True once in so many times.
+    /// True once in `times` times, on average.
     pub fn one_in(&mut self, times: usize) -> bool {
         self.below(times) == 0
     }
 
-    /// One of the values, which are not none.
+    /// One of the values. There must be at least one.
     pub fn pick<T: Copy>(&mut self, values: &[T]) -> T {
         values[self.below(values.len())]
     }
 
-    /// The first number of the range half of the time, else any of it: a rule's
+    /// Half of the time the first number of the range, otherwise any of it: a rule's
     /// limit is more telling than what lies far beyond it.
     pub fn edge(&mut self, range: RangeInclusive<usize>) -> usize {
         if self.one_in(2) {

@@ -4,16 +4,16 @@
 use crate::draft::{Draft, LARGEST_CARD, LARGEST_DEPTH, MARK, MOST_NODES, Node, TRAILER};
 use crate::random::Random;
 
-/// How a tree is to look.
+/// What shape a tree gets.
 #[derive(Clone, Copy)]
 struct Style {
     order: Order,
     split: Split,
-    /// One in so many inner nodes is a loop, the others are pairs.
+    /// One in this many inner nodes is a loop, the others are pairs.
     loops: usize,
 }
 
-/// Which of the parts that wait for a number gets the next lower one.
+/// Which of the waiting parts gets the next lower number.
 #[derive(Clone, Copy)]
 enum Order {
     /// The latest: left part before right part before parent.
@@ -48,29 +48,29 @@ pub fn any(random: &mut Random) -> Draft {
     with_note(random, size)
 }
 
-/// A sound card of so many nodes, with a note.
+/// A sound card of `size` nodes, with a note.
 pub fn with_note(random: &mut Random, size: usize) -> Draft {
     let mut draft = sized(random, size);
     draft.note = note(random, LARGEST_CARD - TRAILER - draft.before());
     draft
 }
 
-/// A sound card of so many nodes, without a note.
+/// A sound card of `size` nodes, without a note.
 pub fn sized(random: &mut Random, size: usize) -> Draft {
     let lifelines = random.within(1..=16) as u8;
     let messages = random.within(1..=64) as u8;
     declaring(random, size, lifelines, messages)
 }
 
-/// A sound card of so many nodes that declares so many lifelines and messages,
-/// without a note.
+/// A sound card of `size` nodes that declares these numbers of lifelines and
+/// messages, without a note.
 pub fn declaring(random: &mut Random, size: usize, lifelines: u8, messages: u8) -> Draft {
     let depth = random.within(least_depth(size)..=LARGEST_DEPTH);
     let nodes = nodes(random, size, depth, lifelines, messages);
     Draft::new(nodes, lifelines, messages)
 }
 
-/// The nodes of a tree of so many nodes, at most so deep, with its actions.
+/// The nodes of a tree of `size` nodes, at most `depth` deep, with its actions.
 pub fn nodes(
     random: &mut Random,
     size: usize,
@@ -88,15 +88,15 @@ fn most_nodes(depth: usize) -> usize {
     (1 << depth.min(LARGEST_DEPTH)) - 1
 }
 
-/// The least depth of a tree of so many nodes.
+/// The least depth of a tree of `size` nodes.
 fn least_depth(size: usize) -> usize {
     (1..LARGEST_DEPTH)
         .find(|&depth| most_nodes(depth) >= size)
         .unwrap_or(LARGEST_DEPTH)
 }
 
-/// A random tree, all its leaves empty. Numbers are given from the root, the
-/// highest, downwards; only a part whose parent has its number can be next.
+/// A random tree, all its leaves empty. Numbers are given from the root, which has
+/// the highest, downwards; a part can be next only once its parent has its number.
 fn tree(random: &mut Random, size: usize, depth: usize) -> Vec<Node> {
     let style = Style {
         order: random.pick(&[Order::Last, Order::First, Order::Any, Order::Any]),
@@ -161,8 +161,8 @@ fn share_out(random: &mut Random, style: Style, below: usize, most: usize) -> Ve
     vec![left, below - left]
 }
 
-/// Turns leaves into actions, on all or on only some of the declared lifelines,
-/// so that the number of acting ones differs from the number declared.
+/// Turns leaves into actions, on all or on only some of the declared lifelines, so
+/// that the number that act may differ from the number declared.
 fn put_actions(random: &mut Random, nodes: &mut [Node], lifelines: u8, messages: u8) {
     let empties = random.pick(&[1, 2, 8, 1000]);
     let first = random.below(usize::from(lifelines));
@@ -177,7 +177,7 @@ fn put_actions(random: &mut Random, nodes: &mut [Node], lifelines: u8, messages:
     }
 }
 
-/// A note of any length up to the most.
+/// A note of any length up to `most`.
 pub fn note(random: &mut Random, most: usize) -> Vec<u8> {
     let length = match random.below(16) {
         0..=3 => 0,
@@ -189,7 +189,7 @@ pub fn note(random: &mut Random, most: usize) -> Vec<u8> {
 }
 
 /// A note of this length: any bytes, or bytes that look like nodes or trailers
-/// and so might mislead a reader that looks for them from the wrong end.
+/// and so might mislead a check that looks for them from the wrong end.
 pub fn note_of(random: &mut Random, length: usize) -> Vec<u8> {
     match random.below(4) {
         0 => vec![0; length],

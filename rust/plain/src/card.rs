@@ -35,7 +35,7 @@ pub struct Checked {
     pub lifelines: u32,
 }
 
-/// A sound card, read.
+/// What a sound card says.
 #[derive(Debug, PartialEq, Eq, Clone)]
 pub struct Card<'a> {
     pub note: &'a [u8],
@@ -217,8 +217,8 @@ fn check_children(nodes: &[Node]) -> Result<(), Refusal> {
     }
 }
 
-/// In how many places each node is a child. A pair that names one child on both
-/// sides counts twice.
+/// How often each node is a child. A pair that names one child on both sides
+/// counts twice.
 fn count_places(nodes: &[Node]) -> Vec<usize> {
     let mut times = vec![0; nodes.len()];
     for node in nodes {
@@ -234,7 +234,7 @@ fn count_places(nodes: &[Node]) -> Vec<usize> {
     times
 }
 
-/// The tree below a node. It ends, since every child's number is lower.
+/// The tree below a node. The recursion ends, since every child's number is lower.
 fn grow(nodes: &[Node], number: usize) -> Rc<Chart> {
     Rc::new(match nodes[number] {
         Node::Empty => Chart::Empty,

@@ -70,7 +70,7 @@ fn write(chart: &Chart, declared: Declared) -> Vec<u8> {
 }
 
 /// Writes the nodes of a part, "left part before right part before parent", and
-/// gives the number of its own node.
+/// returns the number of its root.
 fn write_part(part: &Chart, records: &mut Vec<Record>) -> u8 {
     let record = match part {
         Chart::Empty => [0, 0, 0, 0],

@@ -37,7 +37,7 @@ pub fn occurrences(chart: &Chart, action: Action) -> Vec<Occurrence> {
 /// Goes through a chart from left to right.
 struct Finder {
     action: Action,
-    /// The way down to the part that is looked at.
+    /// The way down to the part that is being looked at.
     way: Vec<Turn>,
     found: Vec<Occurrence>,
 }
@@ -75,8 +75,9 @@ impl Finder {
     }
 }
 
-/// What executing in the left side takes besides the side's follow-up: the pair
-/// written anew, but of an alt "the chosen side's follow-up alone" remains.
+/// The places that executing in the left side takes besides the side's follow-up:
+/// one for the pair written anew; of an alt "the chosen side's follow-up alone"
+/// remains.
 fn left_places(kind: Pair) -> usize {
     match kind {
         Pair::Strict | Pair::Seq | Pair::Par => 1,
@@ -84,8 +85,8 @@ fn left_places(kind: Pair) -> usize {
     }
 }
 
-/// What executing in the right side takes besides the side's follow-up, or
-/// nothing where the left side does not let it act.
+/// The places that executing in the right side takes besides the side's follow-up,
+/// or `None` where the left side does not let it act.
 fn right_places(kind: Pair, left: &Chart, lifeline: u8) -> Option<usize> {
     match kind {
         // "only if the left terminates, and the right's follow-up alone remains".
@@ -97,8 +98,9 @@ fn right_places(kind: Pair, left: &Chart, lifeline: u8) -> Option<usize> {
     }
 }
 
-/// What executing in the body takes besides the body's follow-up: a pair, and of
-/// a weak loop two pairs and the loop pruned, which takes one place itself.
+/// The places that executing in the body takes besides the body's follow-up: one
+/// for a pair; for a weak loop, those of two pairs and of the pruned loop, which
+/// takes one place itself.
 fn loop_places(kind: Loop, body: &Chart, lifeline: u8) -> usize {
     match kind {
         Loop::Strict | Loop::Head | Loop::Parallel => 1,
@@ -136,8 +138,8 @@ fn follow_left(kind: Pair, followed: Rc<Chart>, right: &Rc<Chart>) -> Rc<Chart> 
     }
 }
 
-/// As `right_places` says. That a seq's left side evades the lifeline was seen
-/// when the occurrence was found.
+/// As `right_places` says. The left side of a seq evades the lifeline: that was
+/// checked when the occurrence was found.
 fn follow_right(kind: Pair, left: &Rc<Chart>, followed: Rc<Chart>, lifeline: u8) -> Rc<Chart> {
     match kind {
         Pair::Strict | Pair::Alt => followed,

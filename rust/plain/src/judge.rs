@@ -29,8 +29,8 @@ pub struct Judged {
     pub places: u32,
 }
 
-/// Judges a log by a card, with an allowance of steps and a lent room. Charts
-/// stand on the heap here; of the room only the length counts, and it is zeroed.
+/// Judges a log by a card, with an allowance of steps and a lent room. Charts are
+/// on the heap here: only the length of the room is used, and the room is zeroed.
 pub fn judge(card: &[u8], log: &[u8], allowance: u32, room: &mut [u32]) -> Judged {
     match read(card, log) {
         Ok((chart, log)) => {
@@ -88,7 +88,7 @@ fn search(chart: &Rc<Chart>, log: &[Action], allowance: u32, usable: usize) -> J
 }
 
 /// A search, "depth first, occurrences of the log's next action from left to
-/// right". Its calls break off with the number that ends the search, and go on
+/// right". Its calls break with the number that ends the search, and continue
 /// where a choice has failed.
 struct Search<'a> {
     log: &'a [Action],
@@ -110,7 +110,7 @@ impl Search<'_> {
         self.go_on(chart, 0, self.places)
     }
 
-    /// Goes on with a chart after so many actions, with so many places in use.
+    /// Goes on with a chart after `done` actions, with `in_use` places in use.
     fn go_on(&mut self, chart: &Rc<Chart>, done: usize, in_use: usize) -> ControlFlow<u32> {
         self.longest = self.longest.max(done);
         let Some(&action) = self.log.get(done) else {

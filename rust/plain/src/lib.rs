@@ -1,5 +1,5 @@
 //! The bench tool's calls, written a second time, plainly and from the
-//! customer's documents alone. The proved library is run against this one.
+//! customer's documents alone. The proved library is compared with this one.
 //!
 //! - `card`: reading and checking a chart card.
 //! - `chart`: the chart of a sound card, as a tree.

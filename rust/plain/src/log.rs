@@ -7,7 +7,8 @@ use crate::refusal::{Refusal, refuse};
 /// "At most 256 bytes (128 actions); empty is allowed."
 const LARGEST_LOG: usize = 256;
 
-/// Reads a log to a card that declares so much, or says why it is refused.
+/// Reads a log for a card that declares these lifelines and messages, or says why
+/// the log is refused.
 pub fn read(log: &[u8], declared: Declared) -> Result<Vec<Action>, Refusal> {
     // 7: "log of odd length or over 256 bytes".
     let (pairs, odd) = log.as_chunks::<2>();

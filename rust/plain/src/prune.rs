@@ -1,9 +1,9 @@
 //! Terminating, evading and pruning.
 //!
 //! A chart is pruned "only of what evades d", and evading follows the same
-//! rules as pruning does, so that both calls on pruning answer `None` for a
-//! chart that does not evade the lifeline: "empty and loops do; an action if it
-//! is on another lifeline; alt if either does; the other pairs if both do".
+//! rules as pruning. So both functions for pruning answer `None` for a chart
+//! that does not evade the lifeline: "empty and loops do; an action if it is on
+//! another lifeline; alt if either does; the other pairs if both do".
 
 use std::rc::Rc;
 

@@ -25,7 +25,7 @@ fn example_with(position: usize, value: u8) -> Vec<u8> {
     card
 }
 
-/// An empty under so many loops that the depth is the one wanted.
+/// An empty inside loops, so that the depth is the one wanted.
 fn loops(depth: u8) -> Vec<[u8; 4]> {
     let mut nodes = vec![[0, 0, 0, 0]];
     nodes.extend((1..depth).map(|number| [7, number - 1, 0, 0]));

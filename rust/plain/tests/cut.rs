@@ -36,7 +36,7 @@ fn refused(number: u32, place: u32) -> CutAnswer {
     }
 }
 
-/// So many bytes of garbage, by turns those of a trailer's end.
+/// `length` bytes of garbage: the two bytes of a trailer's end, by turns.
 fn garbage(length: usize) -> Vec<u8> {
     [0x57, 0x4C].into_iter().cycle().take(length).collect()
 }
@@ -48,7 +48,7 @@ fn cut_into(card: &[u8], lifeline: u32, length: usize) -> (CutAnswer, Vec<u8>) {
     (answer, out)
 }
 
-/// The number of a refusal for an ample output, or the card that is written.
+/// The card that is written to an ample output, or the refusal.
 fn cut_card(card: &[u8], lifeline: u32) -> Result<Vec<u8>, CutAnswer> {
     let (answer, mut out) = cut_into(card, lifeline, AMPLE);
     if answer.number != 0 {
@@ -121,7 +121,7 @@ fn the_back_distance_has_two_bytes() {
 
 #[test]
 fn the_counts_and_lifelines_stay() {
-    // Lifeline 15 and message 63 are declared also where they act no more.
+    // Lifeline 15 and message 63 stay declared where they no longer act.
     let chart = pair(ALT, emission(15, 63), reception(14, 0));
     let found = cut_card(&Draft::new(chart, 16, 64).bytes(), 15);
     assert_eq!(found, Ok(Draft::new(reception(14, 0), 16, 64).bytes()));

@@ -39,7 +39,7 @@ fn judged(number: u32, place: u32, steps: u32, places: u32) -> Judged {
     }
 }
 
-/// Judges with so many steps and numbers of room.
+/// Judges with this allowance and this many numbers of room.
 fn lent(nodes: Vec<Node>, text: &str, allowance: u32, room: usize) -> Judged {
     judge(&card(nodes), &log(text), allowance, &mut vec![0; room])
 }
@@ -365,12 +365,12 @@ fn charts_of_depth_16_are_sound_and_17_give_6() {
     assert_eq!(ample(deep(16), "0!0"), judged(6, 0, 0, 0));
 }
 
-/// A room of so many numbers, none of them 0.
+/// A room of `length` numbers, none of them 0.
 fn garbage(length: usize) -> Vec<u32> {
     (1..=length as u32).collect()
 }
 
-/// The room after a judgment that was lent so many numbers.
+/// The room after a judgment that was lent `length` numbers.
 fn room_after(card: &[u8], log: &[u8], allowance: u32, length: usize) -> Vec<u32> {
     let mut room = garbage(length);
     judge(card, log, allowance, &mut room);
@@ -413,8 +413,8 @@ fn only_16384_numbers_are_usable() {
     assert_eq!(lent(chart, &long, AMPLE, 2 * USABLE), exact);
 }
 
-/// The chart that grows some 290 deep: 64 rounds of the parallel loop begin, and
-/// then every 0!0 first tries the 6,400 actions that the rounds still owe.
+/// A chart that grows 75 deep: 64 rounds of the parallel loop begin, and then every
+/// 0!0 first tries the 6,400 actions that the rounds still owe.
 fn deep_chart() -> Vec<Node> {
     let owed = pairs(PAR, &vec![emission(0, 0); 100]);
     let rounds = looped(PARALLEL_LOOP, pair(STRICT, emission(1, 0), owed));

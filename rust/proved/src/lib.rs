@@ -1,5 +1,5 @@
 //! The proved library's calls, linked as any program links them, with the types
-//! of the plain library. All that is unsafe in this workspace stands here.
+//! of the plain library. All unsafe code of this workspace is here.
 
 use plain::{Checked, Judged};
 

@@ -12,7 +12,7 @@ use plain::Checked;
 use crate::measure::{ROUNDS, best};
 
 const SEED: u64 = 20_260_101;
-/// Cards in each set, those of the mix in all.
+/// Cards in each set; in the mix, those of all families together.
 const CARDS: usize = 1000;
 /// How often a round goes through a set.
 const PASSES: usize = 5;

@@ -7,7 +7,7 @@ use crate::measure::{ROUNDS, Work, heading, judgment, row};
 
 /// The program's allowance.
 const ALLOWANCE: u32 = 1_000_000;
-/// Where the demo stands.
+/// Where the demo is.
 const DEMO: &str = concat!(env!("CARGO_MANIFEST_DIR"), "/../../demo");
 
 /// Prints the nanoseconds of a whole judgment for each directory given, or for

@@ -7,7 +7,7 @@ use generate::random::Random;
 
 use crate::measure::{ROUNDS, Work, heading, judgment};
 
-/// Draws the order in which the actions of a seq are executed.
+/// The seed for the order in which the actions of a seq are executed.
 const SEED: u64 = 1;
 
 /// Prints the steps a second for each workload.
@@ -38,8 +38,8 @@ fn work(name: &str, draft: &Draft, log: &[Entry]) -> Work {
     }
 }
 
-/// 128 different actions on 16 lifelines under 127 seqs, accepted. Each step
-/// prunes what stands left of the action.
+/// 128 different actions on 16 lifelines under 127 seqs; the log is accepted. Each
+/// step prunes what stands left of the action.
 fn long_seq() -> Work {
     let message = |number: u8| {
         let sent = emission(number % 16, number);
@@ -52,7 +52,7 @@ fn long_seq() -> Work {
     work("seq, 255 nodes, 128 actions", &draft, &executed.log)
 }
 
-/// Three weak loops in one another, four rounds and an action that never acts:
+/// Three nested weak loops, and a log of four rounds and an action that never acts:
 /// every way to share out the actions among the loops is tried.
 fn nested_loops() -> Work {
     let inner = looped(WEAK_LOOP, emission(2, 0));
@@ -64,8 +64,8 @@ fn nested_loops() -> Work {
     work("nested weak loops", &Draft::new(outer, 3, 1), &log)
 }
 
-/// Nine equal actions in parallel and one that never acts: the nine are executed
-/// in every order.
+/// Nine equal actions in parallel, and a log of the nine and one that never acts: the
+/// nine are executed in every order.
 fn ambiguous_par() -> Work {
     let draft = Draft::new(pairs(PAR, &vec![emission(0, 0); 9]), 1, 1);
     let mut log = vec![[0, 0]; 9];

@@ -3,8 +3,8 @@
 //!
 //!     speed [DIRECTORY...]
 //!
-//! The directories hold files `chart` and `log` each; without any, those of the
-//! repository's `demo` folder are taken.
+//! Each directory holds files `chart` and `log`. Without arguments, the directories of
+//! the repository's `demo` folder are used.
 
 #![forbid(unsafe_code)]
 

@@ -9,10 +9,10 @@ use plain::Judged;
 pub const ROUNDS: usize = 9;
 /// Nanoseconds that a round of judgments or cuts takes at least.
 const LEAST_ROUND: f64 = 20e6;
-/// The numbers of room that are lent.
+/// How many numbers of room are lent.
 const ROOM: usize = 16_384;
 
-/// Nanoseconds of one and the same work.
+/// Nanoseconds that both take for the same work.
 pub struct Times {
     pub plain: f64,
     pub proved: f64,
@@ -26,8 +26,8 @@ pub struct Work {
     pub allowance: u32,
 }
 
-/// The best rounds of both. They take turns, so that a change of the machine's
-/// speed meets both.
+/// The best rounds of both. Rounds take turns, so that a change of the machine's
+/// speed affects both.
 pub fn best(mut plain: impl FnMut(), mut proved: impl FnMut()) -> Times {
     let mut best = Times {
         plain: f64::INFINITY,
@@ -85,7 +85,7 @@ fn judging(work: &Work, judge: Judge) -> impl FnMut() {
     }
 }
 
-/// Prints the heading of a table, of which these columns differ.
+/// Prints the heading of a table. These two columns differ from table to table.
 pub fn heading(first: &str, figure: &str) {
     println!(
         "{first:<32} {:>6} {figure:>8} {:>12} {:>12} {:>13}",
@@ -93,7 +93,7 @@ pub fn heading(first: &str, figure: &str) {
     );
 }
 
-/// Prints a row of it, with the nanoseconds of both.
+/// Prints a row of such a table, with the nanoseconds of both.
 pub fn row(name: &str, number: u32, figure: u32, times: &Times) {
     let Times { plain, proved } = times;
     let ratio = proved / plain;

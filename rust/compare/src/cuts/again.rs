@@ -1,4 +1,4 @@
-//! What holds of every card that a cut writes, asked of the proved program.
+//! What must hold for every card that a cut writes, checked with the proved program.
 
 use generate::draft::{Draft, LARGEST_CARD};
 use generate::logs::{Entry, acting, acts};
@@ -9,8 +9,8 @@ use crate::question::MOST_USABLE;
 /// Steps for each log; a longer search ends in 9.
 const ALLOWANCE: u32 = 300;
 
-/// Checks, cuts and judges by the card that was written; the error says what does
-/// not hold of it.
+/// Checks the card that was written, cuts it again and judges by it; the error says
+/// what does not hold for it.
 pub fn check(question: &Question, written: &[u8]) -> Result<(), String> {
     if proved::check(written).number != 0 || proved::note(written) != 0 {
         return Err("the card written is not sound, or has a note".to_string());
@@ -41,9 +41,9 @@ fn cut_again_the_same(written: &[u8], lifeline: u32) -> bool {
     answer.number == 0 && out.get(..length) == Some(written)
 }
 
-/// Whether the verdicts by both cards fit: no log begins with one in which the
-/// device acts, all others that were accepted are accepted, and what deviated
-/// deviates. The search in what remains is never the longer one.
+/// Whether the verdicts by both cards fit. No log of what remains begins with a log
+/// in which the device acts. Of the other logs, what was accepted still is, and what
+/// deviated still does. The search in what remains is never the longer one.
 fn judged_alike(question: &Question, written: &[u8], log: &[Entry]) -> bool {
     let after = verdict(written, log);
     if acts(log, question.lifeline as u8) {

@@ -1,5 +1,5 @@
-//! Asks about one cut: with an ample output, and around the length of what is
-//! written.
+//! Asks about one cut: with an ample output, and with outputs around the length of
+//! what is written.
 
 use generate::draft::{Draft, LARGEST_CARD};
 use generate::random::Random;
@@ -17,7 +17,8 @@ pub fn question(card: &[u8], lifeline: u32, output: usize, foreseen: &Foreseen) 
     }
 }
 
-/// What any output gives, by the plain program's answer to an ample one.
+/// What an output of any length must give, by the plain program's answer to an ample
+/// one.
 pub fn foresee(card: &[u8], lifeline: u32) -> Foreseen {
     let mut out = [0; LARGEST_CARD];
     let answer = plain::cut(card, lifeline, &mut out);
@@ -44,14 +45,14 @@ pub fn ask(random: &mut Random, card: &[u8], lifeline: u32, foreseen: &Foreseen)
     outputs.into_iter().map(with).collect()
 }
 
-/// Asks on a sound card, whose answers are foreseen by the plain program.
+/// Asks about a sound card; the plain program foresees the answers.
 pub fn ask_sound(random: &mut Random, draft: &Draft, lifeline: u32) -> Vec<Question> {
     let card = draft.bytes();
     let foreseen = foresee(&card, lifeline);
     ask(random, &card, lifeline, &foreseen)
 }
 
-/// None, a few bytes, around the largest card, or more.
+/// An output of no bytes, of few, of many, around the largest card, or of more.
 fn any_output(random: &mut Random) -> usize {
     let few = random.within(1..=40);
     let middling = random.within(41..=LARGEST_CARD);
@@ -65,8 +66,8 @@ pub fn any_declared(random: &mut Random, draft: &Draft) -> u32 {
     random.below(usize::from(draft.lifelines)) as u32
 }
 
-/// A lifeline that no card, or only not this one, declares. Some would be
-/// declared if only their low bits were looked at.
+/// A lifeline that this card does not declare, and most often no card can. Some would
+/// be declared if only their low bits were looked at.
 pub fn any_undeclared(random: &mut Random, declared: u32) -> u32 {
     let low = random.below(declared as usize) as u32;
     let next = random.within(declared as usize..=declared as usize + 3) as u32;

@@ -1,4 +1,4 @@
-//! The families of cuts on which both programs are asked.
+//! The families of cuts that both programs are asked about.
 
 use generate::charts::reordered;
 use generate::cuts::{Device, Made, chart};
@@ -27,7 +27,7 @@ pub const FAMILIES: [Family<Question>; 11] = [
     Family::new("one byte of the card damaged", 4, damaged_cards),
 ];
 
-/// Questions on sound cards, by a lifeline of each.
+/// Questions about sound cards, each with a lifeline that the card declares.
 fn on_cards(random: &mut Random, drafts: Vec<Draft>) -> Vec<Question> {
     let mut questions = Vec::new();
     for draft in drafts {
@@ -37,7 +37,7 @@ fn on_cards(random: &mut Random, drafts: Vec<Draft>) -> Vec<Question> {
     questions
 }
 
-/// Questions on so many cards drawn at random.
+/// Questions about `times` cards drawn at random.
 fn on_drawn(random: &mut Random, times: usize, draw: fn(&mut Random) -> Draft) -> Vec<Question> {
     let drafts = (0..times).map(|_| draw(random)).collect();
     on_cards(random, drafts)
@@ -91,7 +91,7 @@ fn made(random: &mut Random) -> Vec<Question> {
     questions
 }
 
-/// One of up to 16 devices, most often of few.
+/// One of up to 16 devices; most often there are few.
 fn any_device(random: &mut Random) -> Device {
     let lifelines = random.pick(&[1, 2, 2, 3, 3, 16]);
     Device {
@@ -119,7 +119,7 @@ fn judged_again(random: &mut Random) -> Vec<Question> {
     questions
 }
 
-/// Logs by which a chart and what remains of it are told apart, if they can be.
+/// Logs that tell a chart from what remains of it, if any log can.
 fn logs(random: &mut Random, whole: &Draft, rest: &Draft, device: u8) -> Vec<Vec<Entry>> {
     let least = random.within(0..=8);
     let of_whole = execute(random, whole, least).log;

@@ -16,19 +16,19 @@ pub struct Question {
     pub logs: Vec<Vec<Entry>>,
 }
 
-/// What the maker of a question knows of the answer.
+/// What the maker of a question knows about the answer.
 #[derive(Debug, Clone)]
 pub enum Foreseen {
     Nothing,
     /// A refusal with this number.
     Number(u32),
-    /// This card is written if the output is not shorter.
+    /// This card is written, if the output is not shorter than the card.
     Card(Vec<u8>),
 }
 
 impl Question {
-    /// Whether an answer and what it wrote are as foreseen and as the table says
-    /// of its number.
+    /// Whether an answer and what it wrote are as foreseen, and as the table says
+    /// for its number.
     pub fn allows(&self, answer: CutAnswer, written: &[u8]) -> bool {
         let by_table = match answer.number {
             0 => answer.place == 0,

@@ -8,7 +8,7 @@ use super::asking::{any_declared, any_undeclared, ask, foresee};
 use super::question::{Foreseen, Question};
 use crate::subjects;
 
-/// A batch of spoiled cards has at least so many of each number. Each card is
+/// A batch of spoiled cards has at least this many for each number. Each card is
 /// asked about four times.
 const OF_EACH_NUMBER: usize = 10;
 
@@ -23,8 +23,8 @@ pub fn undeclared_lifelines(random: &mut Random) -> Vec<Question> {
     questions
 }
 
-/// Every fault of a card, and every number often: 1 to 6 come before 11, 12
-/// and 13.
+/// Cards with every fault, so that every number comes up often: 1 to 6 come before
+/// 11, 12 and 13.
 pub fn spoiled_cards(random: &mut Random) -> Vec<Question> {
     let mut questions = Vec::new();
     for fault in faults::of_each_number(OF_EACH_NUMBER) {
@@ -47,7 +47,7 @@ pub fn all_families(random: &mut Random) -> Vec<Question> {
     questions
 }
 
-/// Asks by a lifeline that may be declared, and by one that no card declares.
+/// Asks with a lifeline that may be declared, and with one that no card declares.
 fn ask_any(random: &mut Random, card: &cards::Card) -> Vec<Question> {
     let bytes = &card.bytes;
     let mut questions = Vec::new();

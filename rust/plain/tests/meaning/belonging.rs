@@ -7,7 +7,7 @@
 
 use plain::chart::{Action, Chart, Loop, Pair};
 
-/// A set of lifelines, by bits.
+/// A set of lifelines, as bits.
 pub type Lifelines = u16;
 
 /// Whether the log is one of the chart's.
@@ -54,7 +54,7 @@ fn begins_loop(kind: Loop, whole: &Chart, body: &Chart, log: &[Action], closed: 
     log.is_empty() || deals.any(|deal| composed(pair, body, whole, &deal, closed))
 }
 
-/// Whether the deal is one into a left and a right part composed as the pair is.
+/// Whether the deal is into a left and a right part that are composed as in this pair.
 fn composed(kind: Pair, left: &Chart, right: &Chart, deal: &Deal, closed: Lifelines) -> bool {
     let to_right = deal.right();
     // What completes the left part comes after the actions dealt to the right
@@ -75,7 +75,7 @@ fn lifeline(action: &Action) -> Lifelines {
     1 << action.lifeline
 }
 
-/// A deal of a log: which of its actions are given to the right part, by bits.
+/// A deal of a log: which of its actions are given to the right part, as bits.
 pub struct Deal<'a> {
     pub log: &'a [Action],
     pub to_right: u32,

@@ -1,4 +1,4 @@
-//! Cuts held against "Which logs belong to a chart", which knows no pruning: what
+//! Cuts compared with "Which logs belong to a chart", which knows no pruning: what
 //! remains of a chart has just those of its logs in which the device never acts.
 
 use generate::charts::{LOOPS, PAIRS, looped, pair};

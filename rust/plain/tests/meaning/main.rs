@@ -1,6 +1,6 @@
-//! Verdicts held against "Which logs belong to a chart", which knows neither
+//! Verdicts compared with "Which logs belong to a chart", which knows neither
 //! execution nor search: all short logs of many small charts are judged. `cuts`
-//! holds cuts against it.
+//! compares cuts with it.
 
 mod belonging;
 mod cuts;
@@ -26,7 +26,7 @@ struct Subject {
     card: Vec<u8>,
     chart: Rc<Chart>,
     declared: Declared,
-    /// The actions that act in it, and one more that does not if there is any.
+    /// The actions that act in it, and one that does not, if there is any.
     entries: Vec<Entry>,
 }
 
@@ -57,13 +57,13 @@ impl Subject {
         plain::log::read(log.as_flattened(), self.declared).expect("the log is sound")
     }
 
-    /// Number and place by the judge.
+    /// Number and place, as the judge gives them.
     fn verdict(&self, log: &[Entry], room: &mut [u32]) -> (u32, usize) {
         let judged = judge(&self.card, log.as_flattened(), 1_000_000, room);
         (judged.number, judged.place as usize)
     }
 
-    /// Number and place by the meaning.
+    /// Number and place, as the meaning gives them.
     fn meaning(&self, log: &[Entry]) -> (u32, usize) {
         let actions = self.read(log);
         let is_opening = |&length: &usize| begins(&self.chart, &actions[..length], 0);
@@ -78,7 +78,7 @@ impl Subject {
     }
 }
 
-/// All actions that can be declared.
+/// All actions that are declared.
 fn all_entries(declared: Declared) -> impl Iterator<Item = Entry> {
     let whos = 0..2 * declared.lifelines;
     whos.flat_map(move |who| (0..declared.messages).map(move |message| [who, message]))
@@ -190,8 +190,8 @@ fn every_nesting_of_two_loops() {
     }
 }
 
-/// A head loop in a head loop, or a strict loop in it, has logs that one head
-/// loop has not.
+/// A head loop of a head loop, or of a strict loop, has logs that a single head loop
+/// has not.
 #[test]
 fn a_head_loop_of_loops_is_not_one_head_loop() {
     let sequence = charts::pair(charts::SEQ, charts::reception(0, 1), charts::emission(1, 1));

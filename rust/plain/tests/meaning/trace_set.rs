@@ -23,8 +23,8 @@ pub fn logs(chart: &Chart, most: usize) -> BTreeSet<Log> {
     found
 }
 
-/// The logs of a loop: the empty one, and round upon round put before those
-/// found, until nothing new comes up.
+/// The logs of a loop: the empty one, and then, again and again, a round put before
+/// the logs found so far, until nothing new comes up.
 fn rounds(kind: Loop, body: &BTreeSet<Log>, most: usize) -> BTreeSet<Log> {
     let mut found = BTreeSet::from([Vec::new()]);
     loop {
@@ -69,7 +69,7 @@ fn composed(
     found
 }
 
-/// All logs that are dealt into these two, with the deal.
+/// All logs that can be dealt into these two, each with its deal.
 fn merges(left: &[Action], right: &[Action]) -> Vec<(Log, u32)> {
     let length = left.len() + right.len();
     let deals = (0..1u32 << length).filter(|deal| deal.count_ones() as usize == right.len());
