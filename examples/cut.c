@@ -1,5 +1,5 @@
 /* Cuts lifeline 0 out of alt(0!0, 1!0), document 01's example. Prints number, place, length and the bytes written. */
-#include "../include/airpistil.h"
+#include <airpistil.h>
 
 #include <stdio.h>
 

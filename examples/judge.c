@@ -1,5 +1,5 @@
 /* Judges one log by one chart card: the example of document 01. Prints word, place, steps, places. */
-#include "../include/airpistil.h"
+#include <airpistil.h>
 
 #include <stdio.h>
 

@@ -2,7 +2,7 @@
  * small_stack DIR judges the log DIR/log by the card DIR/chart in a thread that has just the stack that airpistil.h
  * asks for, and prints number, place, steps and places. Allowance and room are the program's.
  */
-#include "../include/airpistil.h"
+#include <airpistil.h>
 
 #include <pthread.h>
 #include <stdio.h>
