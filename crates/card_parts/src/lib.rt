@@ -7,13 +7,6 @@ ghost use Rattle.card_spec.specs.Parts.{trailerByte, backOf, lifelinesOf, messa
 ghost use Rattle.card_spec.specs.Nodes.{countOf, nodeAt, spareAt};
 use node::Node;
 
-// A byte as a number.
-pub fn wide(byte: u8) -> u32
-    ensures { λ r. ⌜ r ≡ byte ⌝ }
-{
-    byte as u32
-}
-
 // Byte k of the trailer; 0 if the card is shorter than a trailer.
 pub fn trailer(card: &[u8], k: usize) -> u32
     requires { ⌜ k < 6 ⌝ }
@@ -23,7 +16,7 @@ pub fn trailer(card: &[u8], k: usize) -> u32
     if size < Node::TRAILER_BYTES {
         return 0;
     }
-    wide(card[size - Node::TRAILER_BYTES + k])
+    number::wide(card[size - Node::TRAILER_BYTES + k])
 }
 
 // The back distance, low byte first: how many bytes the nodes take.
@@ -95,9 +88,9 @@ pub fn node_at(nodes: &[u8], i: usize) -> Node
 {
     let at = i * Node::NODE_BYTES;
     Node {
-        kind: wide(nodes[at]),
-        a: wide(nodes[at + 1]),
-        b: wide(nodes[at + 2]),
+        kind: number::wide(nodes[at]),
+        a: number::wide(nodes[at + 1]),
+        b: number::wide(nodes[at + 2]),
     }
 }
 
@@ -106,5 +99,5 @@ pub fn spare_at(nodes: &[u8], i: usize) -> u32
     requires { ⌜ i < countOf (now nodes) ⌝ }
     ensures { λ r. ⌜ r ≡ spareAt (now (nodes .entry)) i ⌝ }
 {
-    wide(nodes[i * Node::NODE_BYTES + 3])
+    number::wide(nodes[i * Node::NODE_BYTES + 3])
 }

@@ -19,9 +19,9 @@ pub fn action_of(first: u8, second: u8) -> Action
     ensures { λ r. ⌜ actionOf r ≡ acts first second ⌝ }
 {
     Action {
-        lifeline: card_parts::wide(first / 2),
+        lifeline: number::wide(first / 2),
         receives: first % 2 == 1,
-        message: card_parts::wide(second),
+        message: number::wide(second),
     }
 }
 

@@ -1,6 +1,6 @@
-// The numbers of the answers, by name, and the larger of two numbers. When each number is given is defined in
-// card_spec/specs/Table.antt (0 to 6), judge_spec/specs/Table.antt (7 and 8), cut_spec/specs/Table.antt (0 and 11 to
-// 13) and chart_spec/specs/Lending.antt (9, 10 and the verdicts).
+// The numbers of the answers, by name; a byte as a number; and the larger of two numbers. When each number is given
+// is defined in card_spec/specs/Table.antt (0 to 6), judge_spec/specs/Table.antt (7 and 8), cut_spec/specs/Table.antt
+// (0 and 11 to 13) and chart_spec/specs/Lending.antt (9, 10 and the verdicts).
 ghost use mathlib.Core.Path.{_≡_};
 ghost use Prim.Native.Nat.{max};
 
@@ -43,6 +43,13 @@ pub const ACCEPTED: u32 = 20;
 pub const SHORT: u32 = 21;
 
 pub const DEVIATES: u32 = 22;
+
+// A byte as a number.
+pub fn wide(byte: u8) -> u32
+    ensures { λ r. ⌜ r ≡ byte ⌝ }
+{
+    byte as u32
+}
 
 pub fn larger(x: u32, y: u32) -> u32
     ensures { λ r. ⌜ r ≡ max x y ⌝ }

@@ -142,13 +142,7 @@ fn walk(room: &mut [u32], root: Root, steps: &[u8])
         let action = log::action_of(steps[i], steps[i + 1]);
         write_question(action);
         write_follow_ups(room, place, action, used);
-        let answer = room_execute::execute(
-            room,
-            place,
-            action,
-            card_parts::wide(steps[i + 2]),
-            used,
-        );
+        let answer = room_execute::execute(room, place, action, number::wide(steps[i + 2]), used);
         let Executed::FollowUp(x) = answer else {
             return;
         };
