@@ -12,22 +12,20 @@ use room_spec::Action;
 use room_spec::Executed;
 use room_spec::Pruned;
 use room_spec::Root;
-use test_print::say;
-use test_print::say_number;
 
 fn say_whether(text: &[u8], is: bool) {
-    say(text);
+    io::write_all(1, text);
     if is {
-        say(b" yes\n");
+        io::write_all(1, b" yes\n");
     } else {
-        say(b" no\n");
+        io::write_all(1, b" no\n");
     }
 }
 
 fn count(text: &[u8], number: u32) {
-    say(text);
-    say_number(number);
-    say(b"\n");
+    io::write_all(1, text);
+    io::print_decimal(1, number as u64);
+    io::write_all(1, b"\n");
 }
 
 fn tell(places: u32, depth: u32, terminates: bool, evades: bool) {

@@ -9,8 +9,10 @@ use room_lay::Laid;
 use room_spec::Action;
 use room_spec::Executed;
 use room_spec::Root;
-use test_print::say;
-use test_print::say_number;
+
+fn say(text: &[u8]) {
+    io::write_all(1, text);
+}
 
 fn nil() {
     say(b"nil");
@@ -38,13 +40,13 @@ fn write_name(kind: u32) {
 }
 
 fn write_action(lifeline: u32, receives: bool, message: u32) {
-    say_number(lifeline);
+    io::print_decimal(1, lifeline as u64);
     if receives {
         say(b"?");
     } else {
         say(b"!");
     }
-    say_number(message);
+    io::print_decimal(1, message as u64);
 }
 
 fn indent() {
@@ -84,7 +86,7 @@ fn write_chart(room: &[u32], place: u32)
 
 fn write_figures(used: u32, terminates: bool, evades_0: bool, evades_1: bool) {
     say(b" ");
-    say_number(used);
+    io::print_decimal(1, used as u64);
     if terminates {
         say(b" terminates");
     }
