@@ -36,6 +36,7 @@ some_implies f (here {x = x} p) = here (f x p)
 some_implies f (there w) = there (some_implies f w)
 
 pub some_map→ : {P : Made → Type 0} (f : Made → Made) (xs : List Made) → Some P (map f xs) → Some (λ x. P (f x)) xs
+some_map→ f [] w = elim w [ ]
 some_map→ f (x ∷ xs) (here p) = here p
 some_map→ f (x ∷ xs) (there w) = there (some_map→ f xs w)
 
@@ -46,6 +47,7 @@ some_map← f (there w) = there (some_map← f w)
 -- a list that is taken only if a test passes
 pub some_if→ : {P : Made → Type 0} (p : Bool) (xs : List Made) → Some P (cond p xs []) → T p × Some P xs
 some_if→ true xs w = (tt, w)
+some_if→ false xs w = elim w [ ]
 
 pub some_if← : {P : Made → Type 0} (p : Bool) (xs : List Made) → T p → Some P xs → Some P (cond p xs [])
 some_if← true xs h w = w
@@ -67,7 +69,7 @@ pub union_left→ : {op : Operator} (P : Made → Traces) {M : Traces} {xs : Lis
     → Union (λ x. Joined op (P x) M) xs t
 union_left→ P (joined s u w n x) = some_implies (λ y p. joined s u p n x) w
 
-pub union_left← : {op : Operator} (P : Made → Traces) {M : Traces} {xs : List Made} {t : Log}
+pub union_left← : {op : Operator} (P : Made → Traces) {M : Traces} {t : Log} {xs : List Made}
     → Union (λ x. Joined op (P x) M) xs t → Joined op (Union P xs) M t
 union_left← P (here (joined s u p n x)) = joined s u (here p) n x
 union_left← P (there w) = joined_implies (λ s v. there v) (λ u n. n) (union_left← P w)
@@ -77,7 +79,7 @@ pub union_right→ : {op : Operator} {L : Traces} (P : Made → Traces) {xs : Li
     → Union (λ x. Joined op L (P x)) xs t
 union_right→ P (joined s u m w x) = some_implies (λ y p. joined s u m p x) w
 
-pub union_right← : {op : Operator} {L : Traces} (P : Made → Traces) {xs : List Made} {t : Log}
+pub union_right← : {op : Operator} {L : Traces} (P : Made → Traces) {t : Log} {xs : List Made}
     → Union (λ x. Joined op L (P x)) xs t → Joined op L (Union P xs) t
 union_right← P (here (joined s u m p x)) = joined s u m (here p) x
 union_right← P (there w) = joined_implies (λ s m. m) (λ u v. there v) (union_right← P w)

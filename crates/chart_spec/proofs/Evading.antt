@@ -41,6 +41,7 @@ terminates→ (loop k b) h = none
 
 pub terminates← : (c : Chart) → Member c [] → T (terminates c)
 terminates← empty m = tt
+terminates← (act a) m = elim m [ ]
 terminates← (alt l r) (inl m) = either←left (terminates l) (terminates r) (terminates← l m)
 terminates← (alt l r) (inr m) = either←right (terminates l) (terminates r) (terminates← r m)
 terminates← (pair o l r) (joined s u m n done) = both← (terminates l) (terminates r) (terminates← l m) (terminates← r n)

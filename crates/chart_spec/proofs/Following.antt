@@ -45,6 +45,7 @@ use Rattle.chart_spec.proofs.Looping.{
 }
 use Rattle.chart_spec.proofs.Choices.{
   here,
+  there,
   some_left,
   some_right,
   some_append,
@@ -204,6 +205,7 @@ act_follows b a t = (forth, λ w. let (h, v) = some_if→ (same a b) (new_empty 
     forth only = some_if← (same b b) (new_empty ∷ []) (same_refl b) (here only)
 
     back : {t : Log} → a ≡ b → OneOf (new_empty ∷ []) t → Only (b ∷ []) (a ∷ t)
+    back e (there w) = elim w [ ]
     back e (here only) = subst (λ (c : Action). Only (b ∷ []) (c ∷ [])) (sym e) only
 
 alt_follows : (l r : Chart) (a : Action) (xs ys : List Made) → Follow l a xs → Follow r a ys

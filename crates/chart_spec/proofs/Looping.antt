@@ -71,10 +71,10 @@ weak_begins→ M {a} (more m v (dealt (right {u = u} {t = t} n x))) = regroup (w
 put_before : (M : Traces) {a : Action} {t f w : Log} → Star (each seq) M f → Clear a.line f → Begun (each seq) M a w
     → Deal seq f w t → Star (each seq) M (a ∷ t)
 put_before M {a} none e b x = begins (each seq) M (subst (Begun (each seq) M a) (deal_left_is_empty x) b)
-put_before M (more m v (dealt z)) e b x =
+put_before M {a = a} {t = t} {w = w} (more {s = s} {u = u} {t = t'} m v (dealt z)) e b x =
     let (r, y, y') = deal_regroups_right x z in
     let (es, ef) = deal_every→ _ z e in
-    more m (put_before M v ef b y) (dealt (right es y'))
+    more m (put_before M {t = r} v ef b y) (dealt (right es y'))
 
 pub weak_begins← : (M : Traces) {a : Action} {t : Log} → Fronted M a t → Star (each seq) M (a ∷ t)
 weak_begins← M (joined f w (v, e) b x) = put_before M v e b x
