@@ -1,6 +1,8 @@
 // The C interface. Each function but `airpistil_version` calls the function of the same name in `card_check`, `judge`
 // or `cut` and returns its answer, or for a note its length. The answers are defined in card_spec, judge_spec and
 // cut_spec. include/airpistil.h declares and documents these functions.
+#![tactic(auto)]
+
 ghost use Rattle.std.specs.Prelude.{◌≡◌, length};
 ghost use Rattle.card_spec.specs.Checking.{checking};
 ghost use Rattle.card_spec.specs.Note.{note_of};

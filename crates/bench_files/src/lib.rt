@@ -1,6 +1,8 @@
 // The program's work: it reads the files `chart` and `log` in its working directory, judges them, and writes one line
 // (01, "Logs worked by hand"). What it tells of their contents is defined in bench_spec/specs/Telling.antt, the line in
 // bench_spec/specs/Spelling.antt.
+#![tactic(auto)]
+
 ghost use Rattle.std.specs.Prelude.{◌≡◌, length};
 ghost use Rattle.bench_spec.specs.Telling.{ReadInto, told_of, room_told, Reports};
 ghost use Rattle.bench_spec.specs.Spelling.{line_of, printed};
@@ -17,7 +19,7 @@ const ROOM: usize = Node::PLACES;
 // How many bytes a card and a log are read into: one more than each may have, so that a longer file is found too long.
 const CARD: usize = Node::CARD_BYTES + 1;
 
-const LOG: usize = log::MOST_BYTES + 1;
+const LOG: usize = log_bytes::MOST_BYTES + 1;
 
 // Reads a file to its end, or as far as the lent bytes go. A negative descriptor says that the file is missing.
 fn read(file: i32, bytes: &mut [u8]) -> Content

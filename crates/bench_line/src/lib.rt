@@ -1,5 +1,7 @@
 // The line that the program prints, spelled out: "word, place, steps, places" (01, "Logs worked by hand"). It is
 // defined in bench_spec/specs/Spelling.antt.
+#![tactic(auto)]
+
 ghost use Rattle.std.specs.Prelude.{[], ◌∷◌, length};
 ghost use Rattle.bench_spec.specs.Spelling.{decimal, word_of, apart, line_of, printed};
 ghost use Rattle.bench_line.specs.Texts.{Fits, Adds, Says};

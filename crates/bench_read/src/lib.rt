@@ -1,5 +1,7 @@
 // What an answer of the C library's `read` means for the file, defined in bench_spec/specs/Reading.antt. The loop that
 // reads is in `bench_files`.
+#![tactic(auto)]
+
 ghost use Rattle.std.specs.Prelude.{◌-◌, ◌≤◌, ◌≡◌};
 ghost use Rattle.libc.specs.Io.{Moved};
 ghost use Rattle.bench_spec.specs.Reading.{after_read};

@@ -1,5 +1,7 @@
 // The types of what the program tells of its two files. specs/ says what is told of which contents, and which line is
 // printed. The code is in the crates `bench_read`, `bench_line` and `bench_files`.
+#![tactic(auto)]
+
 use judge_spec::Judged;
 
 // What reading a file resulted in: how many bytes were read, or nothing that can be relied on.

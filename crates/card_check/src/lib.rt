@@ -1,6 +1,8 @@
 // The check of a card: every run of bytes gets exactly one answer as a chart card (01, "The chart card" and numbers 1
 // to 6 of "Verdicts and numbers given"). The answer is defined in card_spec/specs/Checking.antt, the note in
 // card_spec/specs/Note.antt.
+#![tactic(auto)]
+
 ghost use Rattle.std.specs.Prelude.{◌≡◌};
 ghost use Rattle.card_spec.specs.Checking.{checking, refusal};
 ghost use Rattle.card_spec.specs.Note.{note_of};

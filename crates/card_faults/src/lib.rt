@@ -1,5 +1,7 @@
 // Number 4: what is wrong with one node, and the lowest node with a fault. Both are defined in
 // card_spec/specs/Findings.antt.
+#![tactic(auto)]
+
 ghost use Rattle.std.specs.Prelude.{◌≡◌, ◌<◌, ◌≤◌};
 ghost use Rattle.card_spec.specs.Nodes.{count_of};
 ghost use Rattle.card_spec.specs.Findings.{in_order, fault_of, faulty};

@@ -1,5 +1,7 @@
 // Figures of a card: its depth, and the number of different lifelines that act in it. Both are defined in
 // card_spec/specs/Figures.antt.
+#![tactic(auto)]
+
 ghost use Rattle.std.specs.Prelude.{◌≡◌, ℕ, ◌+◌, ◌<◌, max, T, get_or};
 ghost use Rattle.node_spec.specs.Kind.{kind_of};
 ghost use Rattle.node_spec.specs.Row.{children, highest, Below};

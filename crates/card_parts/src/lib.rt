@@ -1,6 +1,8 @@
 // The parts of a card: the note, the nodes and a trailer of six bytes; and one node out of the bytes of the nodes (01,
 // "The chart card"). They are defined in card_spec/specs/Parts.antt and Nodes.antt, also for bytes that are no card;
 // `card_check` finds out whether the bytes are a card.
+#![tactic(auto)]
+
 ghost use Rattle.std.specs.Prelude.{◌≡◌, ◌<◌};
 ghost use Rattle.card_spec.specs.Parts.{trailer_byte, back_of, lifelines_of, messages_of, trailer_at, first_at, nodes_of};
 ghost use Rattle.card_spec.specs.Nodes.{count_of, node_at, spare_at};

@@ -1,5 +1,6 @@
 // The types of the answer to a card. specs/ says what the bytes of a card mean, and proofs/Promises.antt what is
 // promised of cards; the code is in the other crates `card_..`.
+#![tactic(auto)]
 
 // The answer to a card: number 0, place 0 and the figures of a sound one; or the number and place of a refusal, and
 // no figures.

@@ -1,5 +1,7 @@
 // Number 5: how often each node is a child, and the lowest that is not a child exactly once. It is defined in
 // card_spec/specs/Findings.antt.
+#![tactic(auto)]
+
 ghost use Rattle.std.specs.Prelude.{◌≡◌, ℕ, ◌<◌, get_or, replicate};
 ghost use Rattle.node_spec.specs.Row.{children, uses, Below};
 ghost use Rattle.card_spec.specs.Nodes.{row_of};

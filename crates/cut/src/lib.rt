@@ -1,5 +1,7 @@
 // Cutting a device out of a chart card (01, "Verdicts and numbers given"): every card, lifeline and output gets exactly
 // one answer. The answer and the output are defined in cut_spec/specs/Cutting.antt.
+#![tactic(auto)]
+
 ghost use Rattle.std.specs.Prelude.{◌≡◌, ◌<◌, length};
 ghost use Rattle.card_spec.specs.Parts.{lifelines_of};
 ghost use Rattle.card_spec.specs.Table.{Sound};

@@ -1,5 +1,6 @@
 // The answer to a cut. specs/ defines it for the bytes of a card, and proofs/Promises.antt has what is promised of it;
 // the code that cuts is in the crate `cut`.
+#![tactic(auto)]
 
 // Number 0, place 0 and the length of the card that was written; or the number and place of a refusal, and no length.
 #[repr(C)]

@@ -1,5 +1,7 @@
 // The judgment of a log by a card (01, "Verdicts and numbers given"): every card, log, allowance and room gets exactly
 // one answer. The answer and the room are defined in judge_spec/specs/Judgment.antt.
+#![tactic(auto)]
+
 ghost use Rattle.std.specs.Prelude.{◌≡◌, ◌≤◌, length, replicate};
 ghost use Rattle.chart_spec.specs.Lending.{answer};
 ghost use Rattle.card_spec.specs.Nodes.{card_chart};
@@ -23,7 +25,7 @@ fn answer_in(card: &[u8], log: &[u8], allowance: u32, room: &mut [u32]) -> Judge
         return judge_answer::refused(number::ROOM_EXCEEDED, 0);
     };
     let ended = search::search(log, room, root, allowance, root.used);
-    judge_answer::tell(ended, allowance, (log.len() / log::ACTION_BYTES) as u32)
+    judge_answer::tell(ended, allowance, (log.len() / log_bytes::ACTION_BYTES) as u32)
 }
 
 // The answer to a sound card and log; the room is cleared.
@@ -60,7 +62,7 @@ pub fn judge(card: &[u8], log: &[u8], allowance: u32, room: &mut [u32]) -> Judge
     if number != number::OK {
         return judge_answer::refused(number, checked.place);
     }
-    let finding = log::check(log, card_parts::lifelines(card), card_parts::messages(card));
+    let finding = log_bytes::check(log, card_parts::lifelines(card), card_parts::messages(card));
     if let Finding::Refused { number, place } = finding {
         return judge_answer::refused(number, place);
     }

@@ -1,5 +1,7 @@
 // The answer to a refusal, and to a search that has ended (01, "Verdicts and numbers given"). Both are defined in
 // judge_spec/specs/Judgment.antt; chart_spec/specs/Lending.antt says what is told of an ending.
+#![tactic(auto)]
+
 ghost use Rattle.std.specs.Prelude.{◌≡◌, ◌≤◌, ltb};
 ghost use Rattle.chart_spec.specs.Lending.{unaccepted, told};
 ghost use Rattle.search_spec.specs.Ending.{ending_of, left_of};

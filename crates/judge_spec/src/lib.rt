@@ -1,5 +1,6 @@
 // What a judgment returns. specs/ defines it for the bytes of a card and of a log, and proofs/Promises.antt has what is
 // promised of it; the code that judges is in the crate `judge`.
+#![tactic(auto)]
 
 // The judgment of a log by a card: number, place, steps, places.
 #[repr(C)]

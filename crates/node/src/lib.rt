@@ -1,6 +1,8 @@
 // A node of a chart (01, "The chart card"): the constants for kinds and limits, and a node packed into one place of the
 // room (01, "How a log is executed"). Packing is defined in specs/Place.antt; the crate `node_spec` says what kinds and
 // rows of nodes stand for.
+#![tactic(auto)]
+
 ghost use Rattle.std.specs.Prelude.{◌≡◌};
 ghost use Rattle.node.specs.Place.{word_of, node_of};
 

@@ -1,6 +1,8 @@
 // The numbers of the answers, by name; a byte as a number; and the larger of two numbers. When each number is given
 // is defined in card_spec/specs/Table.antt (0 to 6), judge_spec/specs/Table.antt (7 and 8), cut_spec/specs/Table.antt
 // (0 and 11 to 13) and chart_spec/specs/Lending.antt (9, 10 and the verdicts).
+#![tactic(auto)]
+
 ghost use Rattle.std.specs.Prelude.{◌≡◌, max};
 
 // No refusal: the card is sound, or the cut is written.

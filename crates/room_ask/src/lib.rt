@@ -1,5 +1,7 @@
 // Whether a part terminates, and whether it evades a lifeline (01, "How a log is executed"). Both are defined in
 // chart_spec/specs/Executing.antt, and found by recursion down the room: the place number falls at each call.
+#![tactic(auto)]
+
 ghost use Rattle.std.specs.Prelude.{◌≡◌};
 ghost use Rattle.room_spec.specs.Room.{chart_in, Rooted};
 ghost use Rattle.chart_spec.specs.Executing as chart;

@@ -1,6 +1,8 @@
 // Executing an action (01, "How a log is executed"): its occurrences in a chart, from left to right, and the follow-up
 // of one of them, built in the room above the places in use. Follow-ups are defined in chart_spec/specs/Executing.antt;
 // room_spec/proofs/Onward.antt says what a caller can rely on.
+#![tactic(auto)]
+
 ghost use Rattle.std.specs.Prelude.{◌≡◌, ◌<◌, eqb};
 ghost use Rattle.chart_spec.specs.Action.{same};
 ghost use Rattle.chart_spec.specs.Executing.{follows};

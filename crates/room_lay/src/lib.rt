@@ -1,6 +1,8 @@
 // Laying a card's chart into a room: one place for each node, in the card's own order (01, "How a log is executed",
 // Places). The chart of a card is defined in card_spec/specs/Nodes.antt, what stands in a room in
 // room_spec/specs/Room.antt.
+#![tactic(auto)]
+
 ghost use Rattle.std.specs.Prelude.{◌≡◌, ◌≤◌, length};
 ghost use Rattle.card_spec.specs.Table.{Sound};
 ghost use Rattle.room_lay.specs.Rooms.{taken, laying, laid_in};

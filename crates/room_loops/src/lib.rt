@@ -1,5 +1,7 @@
 // What becomes of a loop when an action is executed in its body (01, "How a log is executed"): the round that was
 // begun, and the loop after it. This is `after_round` of chart_spec/specs/Executing.antt.
+#![tactic(auto)]
+
 ghost use Rattle.std.specs.Prelude.{◌≡◌, ◌<◌};
 ghost use Rattle.chart_spec.specs.Chart.{Loop};
 ghost use Rattle.chart_spec.specs.Executing.{after_round};

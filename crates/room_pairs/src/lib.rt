@@ -1,5 +1,7 @@
 // What becomes of a pair when an action is executed in one of its sides (01, "How a log is executed"): one function for
 // each rule of chart_spec/specs/Executing.antt. `room_execute` puts the rules together.
+#![tactic(auto)]
+
 ghost use Rattle.std.specs.Prelude.{◌≡◌, ℕ, ◌<◌};
 ghost use Rattle.chart_spec.specs.Chart.Order.{strict, seq, par};
 ghost use Rattle.chart_spec.specs.Executing.{on_right};

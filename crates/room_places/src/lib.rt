@@ -1,5 +1,7 @@
 // Reading, writing and clearing the places of a room. Only these functions touch a room's numbers. How a node stands in
 // a place is defined in node/specs/Place.antt.
+#![tactic(auto)]
+
 ghost use Rattle.std.specs.Prelude.{◌≡◌, ◌<◌, length, replicate};
 ghost use Rattle.room_spec.specs.Room.{node_in, Table};
 ghost use Rattle.room_spec.specs.Building.{added, root_at};

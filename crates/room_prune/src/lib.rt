@@ -1,5 +1,7 @@
 // Pruning (01, "How a log is executed"), defined in chart_spec/specs/Executing.antt, by recursion down the room: the
 // place number falls at each call.
+#![tactic(auto)]
+
 ghost use Rattle.std.specs.Prelude.{◌≡◌, ◌<◌};
 ghost use Rattle.room_spec.specs.Room.{chart_in, Table, Rooted};
 ghost use Rattle.room_spec.specs.Building.{Prunes};

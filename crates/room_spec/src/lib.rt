@@ -1,5 +1,6 @@
 // The types of what stands in a room and of the answers about it. specs/Room.antt says what the numbers of a room mean,
 // specs/Building.antt what the answers mean. The code is in the other crates `room_..`.
+#![tactic(auto)]
 
 // An action of a log.
 #[derive(Drop)]

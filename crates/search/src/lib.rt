@@ -1,6 +1,8 @@
 // The search of a log in a chart (01, "How a log is executed"): depth first, occurrences of the next action from left
 // to right, under an allowance of steps and in a room of places. It is defined in chart_spec/specs/Lending.antt;
 // search_spec/specs/Ending.antt says what it means that the code does this.
+#![tactic(auto)]
+
 ghost use Rattle.std.specs.Prelude.{cond, ◌≡◌, ◌<◌, ◌≤◌, length};
 ghost use Rattle.chart_spec.specs.Executing.{terminates};
 ghost use Rattle.room_spec.specs.Room.{chart_in, Table, Rooted};
@@ -60,11 +62,11 @@ pub fn search(log: &[u8], room: &mut [u32], root: Root, allowance: u32, places: 
         × length log.now ≤ 256 }
     ensures { Searches room.old (log_of log.now) root allowance places room.new result }
 {
-    if log.len() < log::ACTION_BYTES {
+    if log.len() < log_bytes::ACTION_BYTES {
         return at_end(room, root.place, allowance, places);
     }
-    let action = log::action_at(log, 0);
-    let rest = &log[log::ACTION_BYTES..log.len()];
+    let action = log_bytes::action_at(log, 0);
+    let rest = &log[log_bytes::ACTION_BYTES..log.len()];
     let mut deepest = 0;
     let mut left = allowance;
     let mut most = places;

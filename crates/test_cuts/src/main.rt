@@ -1,5 +1,7 @@
 // Cuts, run: 01's examples, every refusal, and what a cut does not simplify. Each line has number, place and length,
 // and then the 24 bytes of an output that was filled with EE hex and of which the first bytes were lent.
+#![tactic(auto)]
+
 ghost use Rattle.std.specs.Prelude.{◌≤◌, length};
 
 use cut_spec::CutAnswer;

@@ -2,6 +2,8 @@
 // descends it by recursion, and all of it runs in a stack of 1 MB. The card is loopw(alt(0!0, strict(N, 0!2))) with N
 // twelve weak loops around 0!1; the log is 125 times 0!0, each of which makes the chart two levels deeper, and then
 // 0!1.
+#![tactic(auto)]
+
 ghost use Rattle.std.specs.Prelude.{◌≡◌, suc, ◌<◌, ◌≤◌, length};
 ghost use Rattle.room_spec.specs.Room.{Table, Rooted};
 

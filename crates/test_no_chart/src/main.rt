@@ -1,4 +1,6 @@
 // The bench tool where the file `chart` is missing.
+#![tactic(auto)]
+
 fn main() {
     bench_files::run();
 }

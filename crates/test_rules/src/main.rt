@@ -1,6 +1,8 @@
 // The execution rules, run: charts of 01's table and of its "Errors a reviewer will look for", each with the follow-ups
 // of some actions. A line has the chart, the places in use with it, whether it terminates and which of lifelines 0 and
 // 1 it evades.
+#![tactic(auto)]
+
 ghost use Rattle.std.specs.Prelude.{◌<◌, ◌≤◌, length};
 ghost use Rattle.room_spec.specs.Room.{Table, Rooted, Kept};
 
@@ -139,7 +141,7 @@ fn walk(room: &mut [u32], root: Root, steps: &[u8])
     let mut used = root.used;
     let mut i = 0;
     while i + 3 <= steps.len() {
-        let action = log::action_of(steps[i], steps[i + 1]);
+        let action = log_bytes::action_of(steps[i], steps[i + 1]);
         write_question(action);
         write_follow_ups(room, place, action, used);
         let answer = room_execute::execute(room, place, action, number::wide(steps[i + 2]), used);

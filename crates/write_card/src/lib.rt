@@ -1,6 +1,8 @@
 // A chart in a room, written down as a card (01, "Verdicts and numbers given": "A cut writes a card without a note, the
 // same counts, nodes with left part before right part before parent"). The bytes are defined in
 // write_spec/specs/Cards.antt.
+#![tactic(auto)]
+
 ghost use Rattle.std.specs.Prelude.{◌≡◌, ◌++◌, ◌+◌, ◌<◌, ◌≤◌, length, drop, set};
 ghost use Rattle.std.proofs.lemmas.List.Edits.{sets};
 ghost use Rattle.chart_spec.specs.Chart.{size};

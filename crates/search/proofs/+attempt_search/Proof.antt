@@ -41,7 +41,7 @@ use Rattle.search.proofs.search.Reads as search'
 use Rattle.search.proofs.search.Kinds as search-kinds
 use Rattle.search.proofs.+attempt_search.Lts-search as search-lts
 use Rattle.room_execute.proofs.execute.Reads as execute-reads
-use Rattle.log.proofs.action_at.Reads as action-at-reads
+use Rattle.log_bytes.proofs.action_at.Reads as action-at-reads
 use Rattle.search.proofs.at_end.Reads as at-end-reads
 use Rattle.number.proofs.larger.Reads as larger-reads
 use Rattle.search.proofs.+attempt_search.{statement}

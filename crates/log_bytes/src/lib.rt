@@ -1,5 +1,7 @@
 // Logs as bytes (01, "The log"): the rules that refuse one, and one action out of it. They are defined in
 // log_spec/specs/Refusing.antt and Bytes.antt.
+#![tactic(auto)]
+
 ghost use Rattle.std.specs.Prelude.{◌≡◌, ◌<◌, ◌≤◌, length};
 ghost use Rattle.room_spec.specs.Building.{action_of};
 ghost use Rattle.log_spec.specs.Bytes.{acts, actions_of, action_at};

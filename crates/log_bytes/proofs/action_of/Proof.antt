@@ -1,6 +1,6 @@
 -- `action_of` meets its contract: each field is what is read out of its byte. Assumes nothing.
-use Rattle.log.proofs.action_of.Statement.{statement}
-use Rattle.log.proofs.action_of.Tie as tie
+use Rattle.log_bytes.proofs.action_of.Statement.{statement}
+use Rattle.log_bytes.proofs.action_of.Tie as tie
 
 wide-requires : tie.Need-wide-requires
 wide-requires c κs = tt

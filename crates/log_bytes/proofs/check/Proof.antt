@@ -2,8 +2,8 @@
 use mathlib.Core.Path.{sym, ◌∙◌}
 use Rattle.log_spec.proofs.Rules.{in_rule_is_short, out_of_rule_is_seven, in_rule_is_by_its_actions}
 use Rattle.chart_spec.proofs.Tests.{test_failed, test_passed}
-use Rattle.log.proofs.check.Statement.{statement}
-use Rattle.log.proofs.check.Tie as tie
+use Rattle.log_bytes.proofs.check.Statement.{statement}
+use Rattle.log_bytes.proofs.check.Tie as tie
 
 is-in-rule-requires : tie.Need-is-in-rule-requires
 is-in-rule-requires c κs = tt

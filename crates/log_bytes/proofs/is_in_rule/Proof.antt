@@ -1,7 +1,7 @@
 -- `is_in_rule` meets its contract: both tests, the second only if the first passes. Assumes nothing.
 use borrow.Author.Tests.{ne_eqb, eq-eqb}
-use Rattle.log.proofs.is_in_rule.Statement.{statement}
-use Rattle.log.proofs.is_in_rule.Tie as tie
+use Rattle.log_bytes.proofs.is_in_rule.Statement.{statement}
+use Rattle.log_bytes.proofs.is_in_rule.Tie as tie
 
 returns : tie.Need-returns
 returns c = rw (eq-eqb _ _ c.if1.true)

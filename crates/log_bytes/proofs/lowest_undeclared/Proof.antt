@@ -9,8 +9,8 @@ use Rattle.chart_spec.proofs.Tests.{test_failed, test_passed}
 use Rattle.log_spec.specs.Bytes.{actions_of, action_at}
 use Rattle.log_spec.specs.Refusing.{declared, undeclared_of}
 use Rattle.log_spec.proofs.Rules.{declared_goes_on, undeclared_is_found}
-use Rattle.log.proofs.lowest_undeclared.Statement.{statement}
-use Rattle.log.proofs.lowest_undeclared.Tie as tie
+use Rattle.log_bytes.proofs.lowest_undeclared.Statement.{statement}
+use Rattle.log_bytes.proofs.lowest_undeclared.Tie as tie
 
 abbrev invariant-loop : tie.invariant-loop
 invariant-loop log lifelines messages count i₀ i = (i ≤ count) × (lowest (undeclared_of lifelines messages log) i ≡ Fine)

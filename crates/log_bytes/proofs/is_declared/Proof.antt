@@ -1,7 +1,7 @@
 -- `is_declared` meets its contract: both tests, the second only if the first passes. Assumes nothing.
 use borrow.Author.Tests.{lt-ltb, le-ltb}
-use Rattle.log.proofs.is_declared.Statement.{statement}
-use Rattle.log.proofs.is_declared.Tie as tie
+use Rattle.log_bytes.proofs.is_declared.Statement.{statement}
+use Rattle.log_bytes.proofs.is_declared.Tie as tie
 
 returns : tie.Need-returns
 returns c = rw (lt-ltb _ _ c.before.if1.true)
