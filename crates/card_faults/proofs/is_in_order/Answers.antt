@@ -1,0 +1,73 @@
+-- `is_in_order` meets its contract: each arm of the match knows the kind, and the definition for that kind is the arm's
+-- two tests. Assumes nothing.
+use native.Mathlib.Omega.{arith}
+use borrow.Author.Tests.{ne_eqb, eq-eqb, lt-ltb, le-ltb}
+use Rattle.node_spec.proofs.Ranges.{zero_is_nothing, one_and_two_are_actions, three_to_six_are_pairs}
+use Rattle.node_spec.proofs.Ranges.{seven_to_ten_are_loops, above_ten_is_unknown}
+use Rattle.card_faults.proofs.is_in_order.Goals as goal
+
+pub returns-then-n-eq0 : goal.returns-then-n-eq0
+returns-then-n-eq0 c =
+    rw (
+      eq-eqb _ _ c.if-c-ne0.false,
+      zero_is_nothing _ c.in-0.is,
+      eq-eqb _ _ c.if-n-eq0.true,
+    )
+
+pub returns-else-n-eq0 : goal.returns-else-n-eq0
+returns-else-n-eq0 c =
+    rw (
+      eq-eqb _ _ c.if-c-ne0.false,
+      zero_is_nothing _ c.in-0.is,
+      ne_eqb _ _ c.if-n-eq0.false,
+    )
+
+pub returns-then-n-lifelines : goal.returns-then-n-lifelines
+returns-then-n-lifelines c =
+    let s = c.args in
+    let (r, e) = one_and_two_are_actions s.n.kind
+    (omega (arith, c.in-1-to-2.in_default-own.rest.1)) (omega arith) in
+    rw (eq-eqb _ _ c.if-c-ne0.false, e, lt-ltb _ _ c.if-n-lifelines.true)
+
+pub returns-else-n-lifelines : goal.returns-else-n-lifelines
+returns-else-n-lifelines c =
+    let s = c.args in
+    let (r, e) = one_and_two_are_actions s.n.kind (omega (arith, c.in-1-to-2.in_default-own.rest.1))
+    (omega arith) in
+    rw (eq-eqb _ _ c.if-c-ne0.false, e, le-ltb _ _ c.if-n-lifelines.false)
+
+pub returns-then-n-i : goal.returns-then-n-i
+returns-then-n-i c =
+    let s = c.args in
+    let (p, e) = three_to_six_are_pairs s.n.kind (omega arith) (omega arith) in
+    rw (
+      eq-eqb _ _ c.if-c-ne0.false,
+      e,
+      lt-ltb _ _ c.if-n-i.true,
+    )
+
+pub returns-else-n-i : goal.returns-else-n-i
+returns-else-n-i c =
+    let s = c.args in
+    let (p, e) = three_to_six_are_pairs s.n.kind (omega arith) (omega arith) in
+    rw (eq-eqb _ _ c.if-c-ne0.false, e, le-ltb _ _ c.if-n-i.false)
+
+pub returns-then-n-eq0-2 : goal.returns-then-n-eq0-2
+returns-then-n-eq0-2 c =
+    let s = c.args in
+    let (k, e) = seven_to_ten_are_loops s.n.kind (omega arith) (omega arith) in
+    rw (
+      eq-eqb _ _ c.if-c-ne0.false,
+      e,
+      eq-eqb _ _ c.if-n-eq0-2.true,
+    )
+
+pub returns-else-n-eq0-2 : goal.returns-else-n-eq0-2
+returns-else-n-eq0-2 c =
+    let s = c.args in
+    let (k, e) = seven_to_ten_are_loops s.n.kind (omega arith) (omega arith) in
+    rw (eq-eqb _ _ c.if-c-ne0.false, e, ne_eqb _ _ c.if-n-eq0-2.false)
+
+pub returns-in_default : goal.returns-in_default
+returns-in_default c =
+    rw (eq-eqb _ _ c.if-c-ne0.false, above_ten_is_unknown _ c.in_default.if-kind-lt11-own.false)

@@ -1,0 +1,239 @@
+#!/usr/bin/env python3
+"""Turns the proof of a function that walks its code (Proof.antt) into Invariants.antt and Answers.antt.
+
+usage: tools/answers.py CRATE NAMES OLD [WANTED]
+
+In CRATE it writes the files of each function of OLD, a copy of that crate's proofs/ in the old form; NAMES is what
+`rt check --generated NAMES --old-names` wrote of the crate. Goals that arithmetic alone closes are left out; with
+WANTED, lines "FUNCTION GOAL", so are all others. What it cannot turn it marks with TODO, for a person.
+"""
+import json
+import os
+import re
+import sys
+
+crate, names_dir, old = sys.argv[1:4]
+wanted = None
+if len(sys.argv) > 4:
+    wanted = {tuple(l.split()) for l in open(sys.argv[4])}
+name = os.path.basename(os.path.abspath(crate))
+names = json.load(open(os.path.join(names_dir, "names.json")))
+TRIVIAL = re.compile(r"^[\s(]*(?:(?:omega arith|refl|tt)[\s,)]*)+$")
+
+
+def norm(s):
+    return re.sub(r"[-_]+", "_", s).lower()
+
+
+def blocks(text):
+    """(the comment at the head, use lines, other blocks)"""
+    lines = text.split("\n")
+    i = 0
+    while i < len(lines) and lines[i].startswith("--"):
+        i += 1
+    head, rest = lines[:i], lines[i:]
+    uses, body = [], []
+    k = 0
+    while k < len(rest):
+        if re.match(r"(pub )?use ", rest[k]):
+            u = rest[k]
+            while u.count("{") > u.count("}"):
+                k += 1
+                u += "\n" + rest[k]
+            uses.append(u)
+        else:
+            body.append(rest[k])
+        k += 1
+    found, now = [], []
+    for line in body:
+        if line == "" and now and True:
+            found.append(now)
+            now = []
+        elif line:
+            now.append(line)
+    if now:
+        found.append(now)
+    # a block that begins indented belongs to the one before it
+    merged = []
+    for b in found:
+        if b[0].startswith(" ") and merged:
+            merged[-1] += [""] + b
+        else:
+            merged.append(b)
+    return head, uses, merged
+
+
+class Function:
+    def __init__(self, key):
+        d = names["Rattle-%s-proofs.%s.Lts" % (name, key)]
+        self.d = d
+        self.places = {}
+        self.params = {}
+        for p, new, arm in zip(d["places"], d["places_by_name"], d["arms"]):
+            self.places[norm(p[0])] = (p[0], p[1], p[2], p[4], new, arm)
+            if p[3] in d["params"]:
+                self.params[p[2][1]] = d["params"][p[3]]
+        self.needs = {}
+        for (o, n), (po, pn) in zip(d["needs"], d["asked_at"]):
+            self.needs.setdefault(norm(o), (n, po))
+        self.news = {n for o, n in d["needs"]}
+
+    def chain(self, place):
+        p = self.places.get(norm(place)) if place else None
+        while p:
+            yield p
+            p = self.places.get(norm(p[1])) if p[1] else None
+
+    def step(self, place, words):
+        """The new path of the old one `words`, that begins with a step above a place."""
+        for p in self.chain(place):
+            for field, step, path in p[5][2] if p[5] else ():
+                if norm(step) == norm(words[0]) and words[1:1 + len(path)] == path:
+                    return [p[5][0], field] + words[1 + len(path):]
+            if norm(p[2][0]) == norm(words[0]):
+                rest = words[1:]
+                for o, n in p[3]:
+                    if rest and o == rest[0]:
+                        rest[0] = n
+                        break
+                if len(rest) > 1 and rest[0] == "new" and rest[1].isdigit() and p[2][1] in self.params:
+                    rest[1] = self.params[p[2][1]][int(rest[1])]
+                return [p[2][1]] + rest
+        return None
+
+    def goal(self, o):
+        o = norm(o)
+        for prefix in ("", "overflow_", "slice_bounds_", "shared_slice_", "bounds_"):
+            if o.startswith(prefix):
+                for q in ("", "part_"):
+                    if q + o[len(prefix):] in self.needs:
+                        return self.needs[q + o[len(prefix):]]
+        return None
+
+
+def rewrite(text, f, var, place):
+    """Paths from a context variable at a place."""
+
+    def path(m):
+        tail = m.group(2)
+        words = [w for w in tail.split(".") if w]
+        while words and words[0] == "before":
+            words = words[1:]
+        if not words:
+            return var + ".TODO_before" if m.group(2) else var
+        if words[0] in ("args", "requires", "ranges", "lifetimes"):
+            return var + "." + ".".join(words)
+        p = f.step(place, words)
+        if not p:
+            return var + ".TODO_" + words[0] + "." + ".".join(words[1:])
+        return var + "." + ".".join(p)
+
+    text = re.sub(r"(?<![\w.'-])(%s)((?:\.[A-Za-z_][\w'-]*|\.\d+)*)(?![\w'-])" % re.escape(var), path, text)
+    for alias, word in re.findall(r"let (\w+) = %s\.([\w'-]+) in" % re.escape(var), text):
+        if word in f.params:
+            text = re.sub(r"(?<![\w.'-])%s\.new\.(\d)" % alias, lambda m: f"{alias}.new.{f.params[word][int(m.group(1))]}", text)
+    return text
+
+
+def turn(path, key, folder):
+    f = Function(key)
+    head, uses, body = blocks(open(path).read())
+    uses = [u for u in uses if not re.search(r"\.(Statement|Tie)\b", u)]
+    invariants, answers, helpers = [], [], []
+    imports, shared = set(), {}
+    for b in body:
+        text = "\n".join(b)
+        lead = [l for l in b if l.startswith("--")]
+        code = [l for l in b if not l.startswith("--")]
+        if not code:
+            helpers.append(text)
+            continue
+        sig = code[0]
+        m = re.match(r"(?:abbrev )?(?:pub )?([^\s:]+) : tie\.((?:invariant|decreases)[^\s]*)\s*$", sig)
+        if m:
+            label = m.group(2).split("-", 1)[1] if "-" in m.group(2) else ""
+            kind = m.group(2).split("-", 1)[0]
+            new = next((n for (o, n), vs in f.d["loops"] if norm(o) == norm(label)), label)
+            vs = next((vs for (o, n), vs in f.d["loops"] if norm(o) == norm(label)), [])
+            eq = "\n".join(code[1:])
+            mm = re.match(r"([^\s]+)((?: [^\s=]+)*) =(.*)$", eq, re.S)
+            if not mm:
+                helpers.append("-- TODO\n" + text)
+                continue
+            params = mm.group(2).split()
+            rhs = mm.group(3)
+            for q in sorted(params, key=len, reverse=True):
+                base = q.rstrip("₀")
+                to = ("l.initial." if q.endswith("₀") else "l.") + base
+                rhs = re.sub(r"(?<![\w.'-])%s(?![\w'₀-])" % re.escape(q), to, rhs)
+            goal = f"{kind}-{new}" if new else kind
+            invariants.append("\n".join(lead + [f"abbrev pub {goal} : goal.{goal}", f"{goal} l ={rhs}"]))
+            continue
+        m = re.match(r"(?:pub )?([^\s:]+) : tie\.Need-([^\s]+)", sig)
+        if m:
+            # a signature can run over lines
+            k = 1
+            while k < len(code) and code[k].startswith("    ") and not re.match(r"[^\s]", code[k]):
+                k += 1
+            opens = [l for l in code[k:] if l.startswith("unfolding")]
+            eq = "\n".join(l for l in code[k:] if not l.startswith("unfolding"))
+            mm = re.match(r"([^\s]+)((?: [^\s=]+)*) =(.*)$", eq, re.S)
+            g = f.goal(m.group(2))
+            if mm and not g:
+                continue
+            if not mm:
+                helpers.append(f"-- TODO goal {m.group(2)}\n" + text)
+                continue
+            rhs = mm.group(3)
+            new, place = g
+            if wanted is None and TRIVIAL.match(rhs.strip()) or wanted is not None and (key, new) not in wanted:
+                continue
+            params = mm.group(2).split()
+            var = next((q for q in params if q in ("c", "start", "at")), params[0] if params else "c")
+            params = [q for q in params if not q.startswith("κ")]
+            for alias in re.findall(r"let (\w+) = %s(?:\.before)+ in\s*" % re.escape(var), rhs):
+                rhs = re.sub(r"let %s = %s(?:\.before)+ in\s*" % (alias, re.escape(var)), "", rhs)
+                rhs = re.sub(r"(?<![\w.'-])%s(?=\.)" % alias, var, rhs)
+            rhs = rewrite(rhs, f, var, place)
+            for h, at in shared.items():
+                rhs = re.sub(r"(?<![\w-])%s %s\.TODO_before" % (re.escape(h), var), f"{h} (goal.at.{new} {var}).{at}", rhs)
+            answers.append("\n".join(lead + [f"pub {new} : goal.{new}"] + opens + [f"{new} {' '.join(params)} ={rhs}"]))
+            continue
+        if re.match(r"pub \S+_spec :", sig):
+            continue
+        m = re.search(r"\((\w+) : tie\.((?:\w|-)+)[^)]*\)", text)
+        if m and norm(m.group(2)) in f.places:
+            new = f.places[norm(m.group(2))][4]
+            imports.add(new)
+            shared[sig.split()[0]] = new
+            t = text[:m.start()] + f"({m.group(1)} : {new})" + text[m.end():]
+            head_part, eq_part = t, ""
+            helpers.append(rewrite(t, f, m.group(1), m.group(2)))
+            continue
+        helpers.append(text)
+    for file in ("Invariants.antt", "Answers.antt"):
+        if os.path.exists(os.path.join(folder, file)):
+            os.remove(os.path.join(folder, file))
+    base = f"Rattle.{name}.proofs.{key}"
+    if invariants:
+        out = "\n".join(uses) + f"\nuse {base}.Given as goal\n\n" + "\n\n".join(invariants) + "\n"
+        open(os.path.join(folder, "Invariants.antt"), "w").write(out)
+    if answers or helpers and wanted is None:
+        goals = f"\nuse {base}.Goals as goal\n" + (f"use {base}.Goals.{{{', '.join(sorted(imports))}}}\n" if imports else "")
+        out = "\n".join(head + uses) + goals + "\n" + "\n\n".join(helpers + answers) + "\n"
+        open(os.path.join(folder, "Answers.antt"), "w").write(out)
+    todo = "\n".join(helpers + answers).count("TODO")
+    print(f"{key}: {len(invariants)} invariants, {len(answers)} answers, {len(helpers)} helpers, {todo} to do")
+
+
+for d, _, files in sorted(os.walk(old)):
+    if "Proof.antt" not in files:
+        continue
+    rel = os.path.relpath(d, old)
+    key = rel.replace("/", ".").replace("+", "")
+    folder = os.path.join(crate, "proofs", rel)
+    os.makedirs(folder, exist_ok=True)
+    try:
+        turn(os.path.join(d, "Proof.antt"), key, folder)
+    except KeyError as e:
+        print(f"{key}: no names {e}")
