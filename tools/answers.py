@@ -135,6 +135,16 @@ def rewrite(text, f, var, place):
     return text
 
 
+def straight(text, var):
+    """Without the names for earlier places: each is the context itself now."""
+    while True:
+        m = re.search(r"let ([\w'-]+) = %s(?:\.before)* in\s*" % re.escape(var), text)
+        if not m:
+            return text
+        text = text[:m.start()] + text[m.end():]
+        text = re.sub(r"(?<![\w.'-])%s(?![\w'-])" % re.escape(m.group(1)), var, text)
+
+
 def turn(path, key, folder):
     f = Function(key)
     head, uses, body = blocks(open(path).read())
@@ -191,9 +201,7 @@ def turn(path, key, folder):
             params = mm.group(2).split()
             var = next((q for q in params if q in ("c", "start", "at")), params[0] if params else "c")
             params = [q for q in params if not q.startswith("κ")]
-            for alias in re.findall(r"let (\w+) = %s(?:\.before)+ in\s*" % re.escape(var), rhs):
-                rhs = re.sub(r"let %s = %s(?:\.before)+ in\s*" % (alias, re.escape(var)), "", rhs)
-                rhs = re.sub(r"(?<![\w.'-])%s(?=\.)" % alias, var, rhs)
+            rhs = straight(rhs, var)
             rhs = rewrite(rhs, f, var, place)
             for h, at in shared.items():
                 rhs = re.sub(r"(?<![\w-])%s %s\.TODO_before" % (re.escape(h), var), f"{h} (goal.at.{new} {var}).{at}", rhs)
@@ -206,6 +214,8 @@ def turn(path, key, folder):
             new = f.places[norm(m.group(2))][4]
             imports.add(new)
             shared[sig.split()[0]] = new
+            text = straight(text, m.group(1))
+            m = re.search(r"\((\w+) : tie\.((?:\w|-)+)[^)]*\)", text)
             t = text[:m.start()] + f"({m.group(1)} : {new})" + text[m.end():]
             head_part, eq_part = t, ""
             helpers.append(rewrite(t, f, m.group(1), m.group(2)))

@@ -1,22 +1,19 @@
 -- `count_all` meets its contract: after i turns the children of the first i nodes are counted. Assumes nothing.
-use Prim.Native.Nat.{◌≤◌, ◌-◌}
-use mathlib.Core.Path.{◌≡◌}
 use native.Mathlib.Omega.{arith}
 use Rattle.node_spec.specs.Row.{children, Below}
 use Rattle.node_spec.proofs.Trees.{below_more}
-use Rattle.card_spec.specs.Nodes.{count_of, node_at}
-use Rattle.card_tree.proofs.Counts.{Counted, none_counted, counts_are_small, one_more_counted}
+use Rattle.card_spec.specs.Nodes.{node_at}
+use Rattle.card_tree.proofs.Counts.{none_counted, counts_are_small, one_more_counted}
 use Rattle.card_tree.proofs.count_all.Goals as goal
 use Rattle.card_tree.proofs.count_all.Goals.{After-node_at}
 
 -- Each child of node i has a count.
 low : (c : After-node_at) → Below 255 (children c.node_at.result)
 low c =
-    let s = c.TODO_before in
     let i = c.loop-i.i in
     rw c.node_at.ensures
-    (below_more i 255 (children (node_at s.args.nodes.now i)) (omega (arith, s.requires.0.few))
-    (s.requires.0.lower i (omega arith)))
+    (below_more i 255 (children (node_at c.args.nodes.now i)) (omega (arith, c.requires.0.few))
+    (c.requires.0.lower i (omega arith)))
 
 pub loop-i-init : goal.loop-i-init
 loop-i-init c =

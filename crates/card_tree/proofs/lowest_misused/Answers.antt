@@ -1,15 +1,15 @@
 -- `lowest_misused` meets its contract: every node before j is a child once, and the loop stops at the first that is
 -- not. Assumes nothing.
-use Prim.Native.Nat.{◌≤◌, ◌-◌}
-use mathlib.Core.Path.{◌≡◌, refl, sym, ◌∙◌, ap}
+use Prim.Native.Nat.{◌-◌}
+use mathlib.Core.Path.{◌≡◌, sym, ◌∙◌, ap}
 use native.Mathlib.Omega.{arith}
 use lib.ListN.{get_or}
 use Rattle.node_spec.specs.Row.{uses}
-use Rattle.card_spec.specs.declared.Finding.TheVariants.{Fine, Refused}
+use Rattle.card_spec.specs.declared.Finding.TheVariants.{Refused}
 use Rattle.card_spec.specs.Nodes.{count_of, row_of}
-use Rattle.card_spec.specs.Findings.{misuse_of, lowest}
-use Rattle.card_spec.proofs.Lowest.{fine_so_far, found_here}
-use Rattle.card_tree.proofs.Counts.{misused_as_counted, used_once_as_counted}
+use Rattle.card_spec.specs.Findings.{misuse_of}
+use Rattle.card_spec.proofs.Lowest.{found_here}
+use Rattle.card_tree.proofs.Counts.{misused_as_counted}
 use Rattle.card_tree.proofs.lowest_misused.Goals as goal
 use Rattle.card_tree.proofs.lowest_misused.Goals.{In-loop-j}
 

@@ -1,13 +1,8 @@
 use Prim.Native.Nat.{◌≤◌, ◌-◌}
-use mathlib.Core.Path.{◌≡◌, refl, sym, ◌∙◌, ap}
-use native.Mathlib.Omega.{arith}
-use lib.ListN.{get_or}
-use Rattle.node_spec.specs.Row.{uses}
-use Rattle.card_spec.specs.declared.Finding.TheVariants.{Fine, Refused}
-use Rattle.card_spec.specs.Nodes.{count_of, row_of}
+use mathlib.Core.Path.{◌≡◌}
+use Rattle.card_spec.specs.declared.Finding.TheVariants.{Fine}
+use Rattle.card_spec.specs.Nodes.{row_of}
 use Rattle.card_spec.specs.Findings.{misuse_of, lowest}
-use Rattle.card_spec.proofs.Lowest.{fine_so_far, found_here}
-use Rattle.card_tree.proofs.Counts.{misused_as_counted, used_once_as_counted}
 use Rattle.card_tree.proofs.lowest_misused.Given as goal
 
 abbrev pub invariant-loop-j : goal.invariant-loop-j

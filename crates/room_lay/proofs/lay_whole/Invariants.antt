@@ -1,9 +1,6 @@
-use Prim.Native.Nat.{◌≤◌, ◌<◌, ◌-◌}
-use mathlib.Core.Path.{◌≡◌, refl}
-use native.Mathlib.Omega.{arith}
-use lib.ListN.{length}
+use Prim.Native.Nat.{◌≤◌, ◌-◌}
+use mathlib.Core.Path.{◌≡◌}
 use Rattle.room_lay.specs.Rooms.{placed}
-use Rattle.room_lay.proofs.Placed.{whole, placed_so_far, one_node_more, placed_as_long}
 use Rattle.room_lay.proofs.lay_whole.Given as goal
 
 abbrev pub invariant-loop-i : goal.invariant-loop-i
