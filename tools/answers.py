@@ -135,14 +135,18 @@ def rewrite(text, f, var, place):
     return text
 
 
-def straight(text, var):
+def straight(text, var, helpers):
     """Without the names for earlier places: each is the context itself now."""
     while True:
         m = re.search(r"let ([\w'-]+) = %s(?:\.before)* in\s*" % re.escape(var), text)
         if not m:
             return text
         text = text[:m.start()] + text[m.end():]
-        text = re.sub(r"(?<![\w.'-])%s(?![\w'-])" % re.escape(m.group(1)), var, text)
+        end = r"(?=\.)" if m.group(1) == "at" else r"(?![\w'-])"
+        text = re.sub(r"(?<![\w.'-])%s%s" % (re.escape(m.group(1)), end), var, text)
+        if m.group(1) == "at":
+            for h in helpers:
+                text = re.sub(r"(?<![\w.'-])%s at(?![\w'-])" % re.escape(h), f"{h} {var}", text)
 
 
 def turn(path, key, folder):
@@ -201,10 +205,11 @@ def turn(path, key, folder):
             params = mm.group(2).split()
             var = next((q for q in params if q in ("c", "start", "at")), params[0] if params else "c")
             params = [q for q in params if not q.startswith("κ")]
-            rhs = straight(rhs, var)
+            rhs = straight(rhs, var, shared)
             rhs = rewrite(rhs, f, var, place)
             for h, at in shared.items():
-                rhs = re.sub(r"(?<![\w-])%s %s\.TODO_before" % (re.escape(h), var), f"{h} (goal.at.{new} {var}).{at}", rhs)
+                if f.places[norm(place)][4] != at:
+                    rhs = re.sub(r"(?<![\w-])%s %s(?:\.TODO_before|(?![\w.'-]))" % (re.escape(h), var), f"{h} (goal.at.{new} {var}).{at}", rhs)
             answers.append("\n".join(lead + [f"pub {new} : goal.{new}"] + opens + [f"{new} {' '.join(params)} ={rhs}"]))
             continue
         if re.match(r"pub \S+_spec :", sig):
@@ -214,7 +219,7 @@ def turn(path, key, folder):
             new = f.places[norm(m.group(2))][4]
             imports.add(new)
             shared[sig.split()[0]] = new
-            text = straight(text, m.group(1))
+            text = straight(text, m.group(1), shared)
             m = re.search(r"\((\w+) : tie\.((?:\w|-)+)[^)]*\)", text)
             t = text[:m.start()] + f"({m.group(1)} : {new})" + text[m.end():]
             head_part, eq_part = t, ""
