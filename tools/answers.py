@@ -65,7 +65,13 @@ def blocks(text):
 
 class Function:
     def __init__(self, key):
-        d = names["Rattle-%s-proofs.%s.Lts" % (name, key)]
+        """key: a function's folder; of a cycle, FOLDER:FUNCTION"""
+        if key[0] == "+":
+            d = names["Rattle-%s-proofs.%s.Lts-%s" % ((name,) + tuple(key.split(":")))]
+        else:
+            d = names["Rattle-%s-proofs.%s.Lts" % (name, key)]
+        self.stem = d["stem"]
+        self.cyclic = key[0] == "+"
         self.d = d
         self.places = {}
         self.params = {}
@@ -121,7 +127,11 @@ def rewrite(text, f, var, place):
             words = words[1:]
         if not words:
             return var + ".TODO_before" if m.group(2) else var
-        if words[0] in ("args", "requires", "ranges", "lifetimes"):
+        if words[0] == "pre":
+            words[0] = "requires"
+        if f.cyclic and words[0] == "requires" and len(words) > 1:
+            words = ["decreases"] + words[2:] if words[1] == "0" else ["requires"] + words[2:]
+        if words[0] in ("args", "requires", "ranges", "lifetimes", "decreases"):
             return var + "." + ".".join(words)
         p = f.step(place, words)
         if not p:
@@ -133,6 +143,23 @@ def rewrite(text, f, var, place):
         if word in f.params:
             text = re.sub(r"(?<![\w.'-])%s\.new\.(\d)" % alias, lambda m: f"{alias}.new.{f.params[word][int(m.group(1))]}", text)
     return text
+
+
+def flat(text):
+    """The text of a cycle, as that of one function: its module for the measure's value is undone."""
+    m = re.search(r"(?m)^module _ \(t : ℕ\) where\n", text)
+    if not m:
+        return text
+    lines = []
+    for line in text[m.end():].split("\n"):
+        lines.append(line[2:] if line.startswith("  ") else line)
+    text = text[:m.start()] + "\n".join(lines)
+    arguments = r"(?:\s+(?:[\w'-]*claims|given|[\w-]+-at|[\w']+\.Post|search-Inv-loop|search-μ-loop)(?![\w'-]))+"
+    text = re.sub(r"(?<![\w'-])((?:[\w-]+-)?)lts\.([A-Z][\w-]*)%s" % arguments, lambda m: f"tie.{m.group(1)}{m.group(2)}", text)
+    return text
+
+
+SETTING = re.compile(r"abbrev (?:μ|given|below|claims|[\w-]+-(?:at|below|claims)|μ-[\w-]+) :")
 
 
 def straight(text, var, helpers):
@@ -151,8 +178,10 @@ def straight(text, var, helpers):
 
 def turn(path, key, folder):
     f = Function(key)
-    head, uses, body = blocks(open(path).read())
-    uses = [u for u in uses if not re.search(r"\.(Statement|Tie)\b", u)]
+    head, uses, body = blocks(flat(open(path).read()))
+    uses = [u for u in uses if not re.search(r"\.(Statement|Tie|Reads|Kinds|Lts[\w-]*)\b|borrow\.Fn\.|\.\{statement\}", u)]
+    body = [b for b in body if not SETTING.match(next((l for l in b if not l.startswith("--")), ""))]
+    t_arg = "{t : ℕ} " if key[0] == "+" else ""
     invariants, answers, helpers = [], [], []
     imports, shared = set(), {}
     for b in body:
@@ -204,33 +233,38 @@ def turn(path, key, folder):
                 continue
             params = mm.group(2).split()
             var = next((q for q in params if q in ("c", "start", "at")), params[0] if params else "c")
-            params = [q for q in params if not q.startswith("κ")]
+            params = (["t"] if t_arg else []) + [q for q in params if not q.startswith("κ")]
             rhs = straight(rhs, var, shared)
             rhs = rewrite(rhs, f, var, place)
             for h, at in shared.items():
                 if f.places[norm(place)][4] != at:
-                    rhs = re.sub(r"(?<![\w-])%s %s(?:\.TODO_before|(?![\w.'-]))" % (re.escape(h), var), f"{h} (goal.at.{new} {var}).{at}", rhs)
+                    rhs = re.sub(r"(?<![\w-])%s %s(?:\.TODO_before|(?![\w.'-]))" % (re.escape(h), var), f"{h} (goal.at.{new} {'t ' if t_arg else ''}{var}).{at}", rhs)
             answers.append("\n".join(lead + [f"pub {new} : goal.{new}"] + opens + [f"{new} {' '.join(params)} ={rhs}"]))
             continue
-        if re.match(r"pub \S+_spec :", sig):
+        if re.match(r"pub \S+_spec :", sig) or re.match(r"pub \+\S+", sig):
             continue
+        # a helper over a place, whose name may stand in its equation alone
+        m = re.match(r"((?:--[^\n]*\n)*(?:abbrev )?)([^\s:]+) : tie\.([\w-]+) →", text)
+        if m:
+            v = re.search(r"(?m)^%s (\w+)" % re.escape(m.group(2)), text).group(1)
+            text = m.group(1) + f"{m.group(2)} : ({v} : tie.{m.group(3)}) →" + text[m.end():]
         m = re.search(r"\((\w+) : tie\.((?:\w|-)+)[^)]*\)", text)
         if m and norm(m.group(2)) in f.places:
             new = f.places[norm(m.group(2))][4]
             imports.add(new)
-            shared[sig.split()[0]] = new
+            shared[re.match(r"(?:--[^\n]*\n)*(?:abbrev )?([^\s:]+)", text).group(1)] = new
             text = straight(text, m.group(1), shared)
             m = re.search(r"\((\w+) : tie\.((?:\w|-)+)[^)]*\)", text)
-            t = text[:m.start()] + f"({m.group(1)} : {new})" + text[m.end():]
+            t = text[:m.start()] + f"{t_arg}({m.group(1)} : {new}{' t' if t_arg else ''})" + text[m.end():]
             head_part, eq_part = t, ""
             helpers.append(rewrite(t, f, m.group(1), m.group(2)))
             continue
         helpers.append(text)
-    for file in ("Invariants.antt", "Answers.antt"):
+    for file in ("Answers.antt",) if t_arg else ("Invariants.antt", "Answers.antt"):
         if os.path.exists(os.path.join(folder, file)):
             os.remove(os.path.join(folder, file))
-    base = f"Rattle.{name}.proofs.{key}"
-    if invariants:
+    base = f"Rattle.{name}.proofs.{key.split(':')[0]}"
+    if invariants and not t_arg:
         out = "\n".join(uses) + f"\nuse {base}.Given as goal\n\n" + "\n\n".join(invariants) + "\n"
         open(os.path.join(folder, "Invariants.antt"), "w").write(out)
     if answers or helpers and wanted is None:
@@ -245,7 +279,9 @@ for d, _, files in sorted(os.walk(old)):
     if "Proof.antt" not in files:
         continue
     rel = os.path.relpath(d, old)
-    key = rel.replace("/", ".").replace("+", "")
+    key = rel.replace("/", ".")
+    if key[0] == "+":
+        key += ":" + key[1:]
     folder = os.path.join(crate, "proofs", rel)
     os.makedirs(folder, exist_ok=True)
     try:

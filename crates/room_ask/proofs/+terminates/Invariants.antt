@@ -1,0 +1,5 @@
+-- The place number falls at each call.
+use Rattle.room_ask.proofs.+terminates.Given as goal
+
+abbrev pub decreases-terminates : goal.decreases-terminates
+decreases-terminates l = l.place
