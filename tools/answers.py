@@ -164,6 +164,9 @@ SETTING = re.compile(r"abbrev (?:μ|given|below|claims|[\w-]+-(?:at|below|claims
 
 def straight(text, var, helpers):
     """Without the names for earlier places: each is the context itself now."""
+    for m in re.finditer(r"let (\w+) = (%s[\w.'-]*\.given) in\s*" % re.escape(var), text):
+        text = text.replace(m.group(0), "")
+        text = re.sub(r"(?<![\w.'-])%s(?=\.)" % m.group(1), m.group(2), text)
     while True:
         m = re.search(r"let ([\w'-]+) = %s(?:\.before)* in\s*" % re.escape(var), text)
         if not m:
@@ -174,6 +177,17 @@ def straight(text, var, helpers):
         if m.group(1) == "at":
             for h in helpers:
                 text = re.sub(r"(?<![\w.'-])%s at(?![\w'-])" % re.escape(h), f"{h} {var}", text)
+
+
+def named(rhs):
+    """A name for each earlier place that an answer speaks of more than once."""
+    for text in dict.fromkeys(re.findall(r"\(goal\.at\.[^()]*\)\.[A-Z][\w-]*", rhs)):
+        if rhs.count(text) > 1:
+            word = re.sub(r"\W+", "_", text.split(").", 1)[1]).lower()
+            rhs = rhs.replace(text, word)
+            body = rhs.lstrip()
+            rhs = f"\n    let {word} = {text} in\n    " + body
+    return rhs
 
 
 def turn(path, key, folder):
@@ -239,6 +253,7 @@ def turn(path, key, folder):
             for h, at in shared.items():
                 if f.places[norm(place)][4] != at:
                     rhs = re.sub(r"(?<![\w-])%s %s(?:\.TODO_before|(?![\w.'-]))" % (re.escape(h), var), f"{h} (goal.at.{new} {'t ' if t_arg else ''}{var}).{at}", rhs)
+            rhs = named(rhs)
             answers.append("\n".join(lead + [f"pub {new} : goal.{new}"] + opens + [f"{new} {' '.join(params)} ={rhs}"]))
             continue
         if re.match(r"pub \S+_spec :", sig) or re.match(r"pub \+\S+", sig):

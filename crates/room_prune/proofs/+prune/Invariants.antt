@@ -1,0 +1,5 @@
+-- The place number falls at each call.
+use Rattle.room_prune.proofs.+prune.Given as goal
+
+abbrev pub decreases-prune : goal.decreases-prune
+decreases-prune l = l.place
