@@ -5,21 +5,21 @@
 use judge_spec::Judged;
 
 // What reading a file resulted in: how many bytes were read, or nothing that can be relied on.
-#[derive(Drop)]
+#[derive(Clone, Copy)]
 pub enum Content {
     Bytes(usize),
     Nothing,
 }
 
 // What one answer of the C library's `read` means: so many bytes are read, and reading goes on; or reading has ended.
-#[derive(Drop)]
+#[derive(Clone, Copy)]
 pub enum Turn {
     On(usize),
     Ended(Content),
 }
 
 // What the program tells: the judgment of its two files, or that one is missing.
-#[derive(Drop)]
+#[derive(Clone, Copy)]
 pub enum Told {
     Answer(Judged),
     NoFile,

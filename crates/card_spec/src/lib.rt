@@ -5,7 +5,7 @@
 // The answer to a card: number 0, place 0 and the figures of a sound one; or the number and place of a refusal, and
 // no figures.
 #[repr(C)]
-#[derive(Drop)]
+#[derive(Clone, Copy)]
 pub struct Checked {
     pub number: u32,
     pub place: u32,
@@ -15,7 +15,7 @@ pub struct Checked {
 }
 
 // What one of the card's rules finds.
-#[derive(Drop)]
+#[derive(Clone, Copy)]
 pub enum Finding {
     Fine,
     Refused { number: u32, place: u32 },

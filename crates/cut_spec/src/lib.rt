@@ -4,7 +4,7 @@
 
 // Number 0, place 0 and the length of the card that was written; or the number and place of a refusal, and no length.
 #[repr(C)]
-#[derive(Drop)]
+#[derive(Clone, Copy)]
 pub struct CutAnswer {
     pub number: u32,
     pub place: u32,

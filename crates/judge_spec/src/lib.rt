@@ -4,7 +4,7 @@
 
 // The judgment of a log by a card: number, place, steps, places.
 #[repr(C)]
-#[derive(Drop)]
+#[derive(Clone, Copy)]
 pub struct Judged {
     pub number: u32,
     pub place: u32,

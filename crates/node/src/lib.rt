@@ -7,7 +7,7 @@ ghost use Rattle.std.specs.Prelude.{◌≡◌};
 ghost use Rattle.node.specs.Place.{word_of, node_of};
 
 // The kind, and two numbers whose meaning depends on the kind: lifeline and message, or the numbers of the children.
-#[derive(Drop)]
+#[derive(Clone, Copy)]
 pub struct Node {
     pub kind: u32,
     pub a: u32,

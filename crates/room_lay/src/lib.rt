@@ -11,7 +11,7 @@ ghost use Rattle.room_lay.specs.declared.Laid.TheVariants.{Whole};
 use room_spec::Root;
 
 // What laying returns: the whole chart, or that it exceeds the room.
-#[derive(Drop)]
+#[derive(Clone, Copy)]
 pub enum Laid {
     Whole(Root),
     TooLittle,

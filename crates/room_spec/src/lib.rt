@@ -3,7 +3,7 @@
 #![tactic(auto)]
 
 // An action of a log.
-#[derive(Drop)]
+#[derive(Clone, Copy)]
 pub struct Action {
     pub lifeline: u32,
     pub receives: bool,
@@ -12,21 +12,21 @@ pub struct Action {
 
 // A part in the room: the place of its root, and how many places are in use with it. If that is more than the room has,
 // `used` is one more than the room's length, and nothing stands at the place.
-#[derive(Drop)]
+#[derive(Clone, Copy)]
 pub struct Root {
     pub place: u32,
     pub used: u32,
 }
 
 // What pruning returns: what is left of the part, or nothing if the part does not evade the lifeline.
-#[derive(Drop)]
+#[derive(Clone, Copy)]
 pub enum Pruned {
     Part(Root),
     Nothing,
 }
 
 // What executing an occurrence returns: the follow-up, or how many occurrences are still to be passed over.
-#[derive(Drop)]
+#[derive(Clone, Copy)]
 pub enum Executed {
     FollowUp(Root),
     Missing(u32),

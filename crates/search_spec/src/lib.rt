@@ -4,7 +4,7 @@
 
 // How a search ends, each time with the allowance left and the most places in use: it found an accepting path; or every
 // choice failed, with the most actions executed on one path; or it was stopped, with its number.
-#[derive(Drop)]
+#[derive(Clone, Copy)]
 pub enum Ended {
     Found {
         left: u32,

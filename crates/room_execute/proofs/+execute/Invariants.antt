@@ -1,0 +1,5 @@
+-- The place number falls at each call.
+use Rattle.room_execute.proofs.+execute.Given as goal
+
+abbrev pub decreases-execute : goal.decreases-execute
+decreases-execute l = l.place
