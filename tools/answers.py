@@ -164,19 +164,20 @@ SETTING = re.compile(r"abbrev (?:μ|given|below|claims|[\w-]+-(?:at|below|claims
 
 def straight(text, var, helpers):
     """Without the names for earlier places: each is the context itself now."""
-    for m in re.finditer(r"let (\w+) = (%s[\w.'-]*\.given) in\s*" % re.escape(var), text):
-        text = text.replace(m.group(0), "")
-        text = re.sub(r"(?<![\w.'-])%s(?=\.)" % m.group(1), m.group(2), text)
     while True:
         m = re.search(r"let ([\w'-]+) = %s(?:\.before)* in\s*" % re.escape(var), text)
         if not m:
-            return text
+            break
         text = text[:m.start()] + text[m.end():]
         end = r"(?=\.)" if m.group(1) == "at" else r"(?![\w'-])"
         text = re.sub(r"(?<![\w.'-])%s%s" % (re.escape(m.group(1)), end), var, text)
         if m.group(1) == "at":
             for h in helpers:
                 text = re.sub(r"(?<![\w.'-])%s at(?![\w'-])" % re.escape(h), f"{h} {var}", text)
+    for m in list(re.finditer(r"let (\w+) = (%s[\w.'-]*\.given) in\s*" % re.escape(var), text)):
+        text = text.replace(m.group(0), "")
+        text = re.sub(r"(?<![\w.'-])%s(?=\.)" % m.group(1), m.group(2), text)
+    return text
 
 
 def named(rhs):

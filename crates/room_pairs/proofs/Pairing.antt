@@ -1,7 +1,7 @@
 -- Executing in a pair. Each law is one case of 01's rules: what the code answers is the answer for the follow-ups that
 -- the rule names.
 -- Assumes nothing.
-use Prim.Native.Nat.{ℕ, ◌+◌, ◌<◌}
+use Prim.Native.Nat.{ℕ, ◌<◌}
 use mathlib.Core.Bool.{Bool, true, false, cond}
 use mathlib.Core.List.{List, [], ◌∷◌, ◌++◌, map, map-id}
 use mathlib.Core.Logic.{◌≢◌}
