@@ -84,6 +84,11 @@ class Function:
             self.needs.setdefault(norm(o), (n, po))
         self.news = {n for o, n in d["needs"]}
 
+    def left(self, step, k):
+        """The name of what a call leaves in its parameter number k."""
+        names = self.params[step]
+        return names[k] if k < len(names) else "TODO"
+
     def chain(self, place):
         p = self.places.get(norm(place)) if place else None
         while p:
@@ -102,8 +107,11 @@ class Function:
                     if rest and o == rest[0]:
                         rest[0] = n
                         break
-                if len(rest) > 1 and rest[0] == "new" and rest[1].isdigit() and p[2][1] in self.params:
-                    rest[1] = self.params[p[2][1]][int(rest[1])]
+                if rest[:1] == ["new"] and p[2][1] in self.params:
+                    k = 1
+                    while rest[k] == "1":
+                        k += 1
+                    rest[1:k + 1] = [self.left(p[2][1], k - 1)]
                 return [p[2][1]] + rest
         return None
 
@@ -141,7 +149,7 @@ def rewrite(text, f, var, place):
     text = re.sub(r"(?<![\w.'-])(%s)((?:\.[A-Za-z_][\w'-]*|\.\d+)*)(?![\w'-])" % re.escape(var), path, text)
     for alias, word in re.findall(r"let (\w+) = %s\.([\w'-]+) in" % re.escape(var), text):
         if word in f.params:
-            text = re.sub(r"(?<![\w.'-])%s\.new\.(\d)" % alias, lambda m: f"{alias}.new.{f.params[word][int(m.group(1))]}", text)
+            text = re.sub(r"(?<![\w.'-])%s\.new((?:\.1)*)\.0" % alias, lambda m: f"{alias}.new." + f.left(word, len(m.group(1)) // 2), text)
     return text
 
 

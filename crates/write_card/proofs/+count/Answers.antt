@@ -1,0 +1,132 @@
+-- `count` meets its contract: for each kind, the answers at the parts give the size of the chart.
+-- Assumes nothing.
+use mathlib.Core.Path.{◌≡◌, sym}
+use native.Mathlib.Omega.{arith}
+use Rattle.chart_spec.specs.Chart.{size}
+use Rattle.room_spec.specs.Room.{chart_in}
+use Rattle.room_spec.proofs.Apart.{Reading, left_lower, right_lower, body_lower}
+use Rattle.write_card.proofs.Counting.{a_leaf_is_one, the_unknown_is_one, a_pair_is_one_more, a_loop_is_one_more}
+use Prim.Native.Nat.{ℕ, ◌≤◌}
+use Rattle.write_card.proofs.+count.Goals as goal
+use Rattle.write_card.proofs.+count.Goals.{After-read-node}
+
+-- The part, with its node.
+abbrev reading : {t : ℕ} (c : After-read-node t) → Reading
+reading c =
+    record {
+      room = c.args.room.now;
+      place = c.args.place;
+      root = c.requires.0;
+      node = c.read-node.result;
+      here = c.read-node.ensures;
+    }
+
+-- The measure is the place number.
+at_place : {t : ℕ} (c : After-read-node t) → (reading c).place ≡ t
+at_place c = c.decreases
+
+few : {t : ℕ} (c : After-read-node t) → size (chart_in (reading c).room (reading c).place) ≤ 255
+few c = c.requires.1
+
+pub count-requires : goal.count-requires
+count-requires t c =
+    let after_read_node = (goal.at.count-requires t c).After-read-node in
+    let (lower, root) = left_lower (reading after_read_node) (omega arith) (omega arith) in (
+      omega (arith, at_place after_read_node),
+      (
+        root,
+        omega (
+          arith,
+          few after_read_node,
+          a_pair_is_one_more (reading after_read_node) (omega arith)
+              (omega arith),
+        ),
+      ),
+    )
+
+pub count-requires-in-3-to-6 : goal.count-requires-in-3-to-6
+count-requires-in-3-to-6 t c =
+    let after_read_node = (goal.at.count-requires-in-3-to-6 t c).After-read-node in
+    let (lower, root) = right_lower (reading after_read_node) (omega arith) (omega arith) in (
+      omega (arith, at_place after_read_node),
+      (
+        root,
+        omega (
+          arith,
+          few after_read_node,
+          a_pair_is_one_more (reading after_read_node)
+              (omega arith) (omega arith),
+        ),
+      ),
+    )
+
+pub overflow_add-result : goal.overflow_add-result
+overflow_add-result t c =
+    let after_read_node = (goal.at.overflow_add-result t c).After-read-node in
+    omega (
+      arith,
+      c.count.ensures,
+      c.count-in-3-to-6.ensures,
+      few after_read_node,
+      a_pair_is_one_more
+          (reading after_read_node) (omega arith) (omega arith),
+    )
+
+pub overflow_add-result-in-3-to-6 : goal.overflow_add-result-in-3-to-6
+overflow_add-result-in-3-to-6 t c =
+    let after_read_node = (goal.at.overflow_add-result-in-3-to-6 t c).After-read-node in
+    omega (
+      arith,
+      c.count.ensures,
+      c.count-in-3-to-6.ensures,
+      few after_read_node,
+      a_pair_is_one_more
+          (reading after_read_node) (omega arith) (omega arith),
+    )
+
+pub count-requires-in-7-to-10 : goal.count-requires-in-7-to-10
+count-requires-in-7-to-10 t c =
+    let after_read_node = (goal.at.count-requires-in-7-to-10 t c).After-read-node in
+    let (lower, root) = body_lower (reading after_read_node) (omega arith) (omega arith) in (
+      omega (arith, at_place after_read_node),
+      (
+        root,
+        omega (
+          arith,
+          few after_read_node,
+          a_loop_is_one_more (reading after_read_node)
+              (omega arith) (omega arith),
+        ),
+      ),
+    )
+
+pub overflow_add-result-in-7-to-10 : goal.overflow_add-result-in-7-to-10
+overflow_add-result-in-7-to-10 t c =
+    let after_read_node = (goal.at.overflow_add-result-in-7-to-10 t c).After-read-node in
+    omega (
+      arith,
+      c.count-in-7-to-10.ensures,
+      few after_read_node,
+      a_loop_is_one_more (reading after_read_node) (omega arith)
+          (omega arith),
+    )
+
+pub returns-in-3-to-6 : goal.returns-in-3-to-6
+returns-in-3-to-6 t c =
+    omega (
+      arith,
+      c.count.ensures,
+      c.count-in-3-to-6.ensures,
+      a_pair_is_one_more (reading (goal.at.returns-in-3-to-6 t c).After-read-node)
+          (omega arith) (omega arith),
+    )
+
+pub returns-in-7-to-10 : goal.returns-in-7-to-10
+returns-in-7-to-10 t c =
+    omega (arith, c.count-in-7-to-10.ensures, a_loop_is_one_more (reading (goal.at.returns-in-7-to-10 t c).After-read-node) (omega arith) (omega arith))
+
+pub returns-in_default : goal.returns-in_default
+returns-in_default t c = sym (a_leaf_is_one (reading (goal.at.returns-in_default t c).After-read-node) (omega arith))
+
+pub returns-in_default-2 : goal.returns-in_default-2
+returns-in_default-2 t c = sym (the_unknown_is_one (reading (goal.at.returns-in_default-2 t c).After-read-node) (omega arith))
