@@ -1,0 +1,104 @@
+-- `cut_in` meets its contract: the chart is laid and pruned, and what is left of it, if anything, is written if the
+-- output is long enough for its card. Assumes nothing.
+use Prim.Native.Nat.{◌<◌, ◌≤◌}
+use mathlib.Core.Path.{◌≡◌, ap, sym, ◌∙◌}
+use native.Mathlib.Omega.{arith}
+use borrow.Author.Rules.{rules}
+use lib.ListN.{length}
+use Rattle.write_spec.specs.Cards.{card_bytes}
+use Rattle.room_spec.specs.declared.Pruned.TheVariants.{Nothing}
+use Rattle.cut.proofs.Leaving.{
+  few_places,
+  asks_pruning,
+  found_by_pruning,
+  Left,
+  part_left,
+  asks_counting,
+  asks_writing,
+}
+use Rattle.cut_spec.proofs.Refusing.{never_avoided, too_short, card_made}
+use Rattle.cut.proofs.cut_in.Goals as goal
+use Rattle.cut.proofs.cut_in.Goals.{In-Part}
+
+-- What is left of the chart.
+left :
+    (c : In-Part)
+    → Left c.args.card.now c.args.lifeline
+    c.prune-pruned.new.room c.in-Part.part.place
+left c =
+    let s = c.args in
+    let (sound, declared, long) = c.requires in
+    let laid = c.lay_whole-root in
+    part_left s.card.now sound s.lifeline s.room.now long laid.result laid.ensures.0
+    laid.new.room laid.ensures.1 c.prune-pruned.new.room c.in-Part.part
+    (rw c.in-Part.is at c.prune-pruned.ensures)
+
+pub lay_whole-root-requires : goal.lay_whole-root-requires
+lay_whole-root-requires c =
+    let (sound, declared, long) = c.requires in
+    (sound, omega (arith, few_places c.args.card.now sound), omega arith)
+
+pub prune-pruned-requires : goal.prune-pruned-requires
+prune-pruned-requires c =
+    let s = c.args in
+    let (sound, declared, long) = c.requires in
+    let laid = c.lay_whole-root in
+    asks_pruning s.card.now sound s.lifeline s.room.now long laid.result laid.ensures.0
+    laid.new.room laid.ensures.1
+
+pub returns-in_default : goal.returns-in_default
+returns-in_default c =
+    let s = c.args in
+    let (sound, declared, long) = c.requires in
+    let laid = c.lay_whole-root in
+    let lost = rw c.in_default.is at c.prune-pruned.ensures in
+    let (answer, out) =
+    never_avoided s.card.now s.lifeline s.out.now sound declared
+    (found_by_pruning s.card.now sound s.lifeline s.room.now long laid.result laid.ensures.0
+    laid.new.room laid.ensures.1 c.prune-pruned.new.room Nothing lost) in
+    (c.refused.ensures ∙ answer, out)
+
+pub card_bytes-length-requires : goal.card_bytes-length-requires
+card_bytes-length-requires c = asks_counting c.requires.0 (left c)
+
+pub returns-then-out-length : goal.returns-then-out-length
+returns-then-out-length c =
+    let in_part = (goal.at.returns-then-out-length c).In-Part in
+    let s = in_part.args in
+    let (sound, declared, long) = in_part.requires in
+    let part = left in_part in
+    let bytes = rw part.stands at c.card_bytes-length.ensures in
+    let (answer, out) =
+    too_short s.card.now s.lifeline s.out.now sound declared part.evading (omega arith) in
+    (c.refused-then-out-length.ensures ∙ answer, out)
+
+pub write_card-requires : goal.write_card-requires
+write_card-requires c =
+    let in_part = (goal.at.write_card-requires c).In-Part in
+    asks_writing in_part.requires.0 (left in_part) c.lifelines-lifelines.result
+    c.messages-messages.result in_part.args.out.now
+    c.lifelines-lifelines.ensures c.messages-messages.ensures
+    (omega (arith, c.card_bytes-length.ensures))
+
+pub overflow_cast-result : goal.overflow_cast-result
+overflow_cast-result c =
+    let in_part = (goal.at.overflow_cast-result c).In-Part in
+    omega (
+      arith,
+      c.card_bytes-length.ensures,
+      (asks_counting in_part.requires.0
+          (left in_part)).1,
+    )
+
+pub returns : goal.returns
+returns c =
+    let in_part = (goal.at.returns c).In-Part in
+    let s = in_part.args in
+    let (sound, declared, long) = in_part.requires in
+    let part = left in_part in
+    let bytes = rw part.stands at c.card_bytes-length.ensures in
+    let wrote = rw (part.stands, c.lifelines-lifelines.ensures, c.messages-messages.ensures) at
+    c.write_card.ensures in
+    card_made s.card.now s.lifeline s.out.now sound declared part.evading
+    c.card_bytes-length.result
+    c.write_card.new.out bytes (omega arith) wrote
