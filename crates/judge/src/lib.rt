@@ -25,7 +25,11 @@ fn answer_in(card: &[u8], log: &[u8], allowance: u32, room: &mut [u32]) -> Judge
         return judge_answer::refused(number::ROOM_EXCEEDED, 0);
     };
     let ended = search::search(log, room, root, allowance, root.used);
-    judge_answer::tell(ended, allowance, (log.len() / log_bytes::ACTION_BYTES) as u32)
+    judge_answer::tell(
+        ended,
+        allowance,
+        (log.len() / log_bytes::ACTION_BYTES) as u32,
+    )
 }
 
 // The answer to a sound card and log; the room is cleared.

@@ -2,7 +2,6 @@
 -- Assumes nothing.
 use mathlib.Core.Path.{refl, sym, ap, ◌∙◌}
 use native.Mathlib.Omega.{arith}
-use borrow.Author.Rules.{rules}
 use Rattle.card_spec.specs.Table.{Sound}
 use Rattle.card_spec.proofs.Promises.{zero_exactly_for_sound_cards}
 use Rattle.cut_spec.proofs.Refusing.{card_refused, not_declared}

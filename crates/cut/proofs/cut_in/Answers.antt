@@ -1,11 +1,7 @@
 -- `cut_in` meets its contract: the chart is laid and pruned, and what is left of it, if anything, is written if the
 -- output is long enough for its card. Assumes nothing.
-use Prim.Native.Nat.{◌<◌, ◌≤◌}
-use mathlib.Core.Path.{◌≡◌, ap, sym, ◌∙◌}
+use mathlib.Core.Path.{◌∙◌}
 use native.Mathlib.Omega.{arith}
-use borrow.Author.Rules.{rules}
-use lib.ListN.{length}
-use Rattle.write_spec.specs.Cards.{card_bytes}
 use Rattle.room_spec.specs.declared.Pruned.TheVariants.{Nothing}
 use Rattle.cut.proofs.Leaving.{
   few_places,
