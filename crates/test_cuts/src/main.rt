@@ -5,124 +5,142 @@
 ghost use Rattle.std.specs.Prelude.{◌≤◌, length};
 
 use cut_spec::CutAnswer;
+use std::io;
+use std::io::Stdout;
 
 const OUT: usize = 24;
 
-fn say(text: &[u8]) {
-    io::write_all(1, text);
+fn say(stdout: Stdout, text: &[u8]) -> io::Result<()> {
+    stdout.write_all(text)
 }
 
-fn space() {
-    say(b" ");
+fn space(stdout: Stdout) -> io::Result<()> {
+    say(stdout, b" ")
 }
 
-fn end_line() {
-    say(b"\n");
+fn end_line(stdout: Stdout) -> io::Result<()> {
+    say(stdout, b"\n")
 }
 
-fn write_answer(answer: CutAnswer) {
-    io::print_decimal(1, answer.number as u64);
-    space();
-    io::print_decimal(1, answer.place as u64);
-    space();
-    io::print_decimal(1, answer.length as u64);
+fn write_answer(stdout: Stdout, answer: CutAnswer) -> io::Result<()> {
+    print!(stdout; "{}", answer.number)?;
+    space(stdout)?;
+    print!(stdout; "{}", answer.place)?;
+    space(stdout)?;
+    print!(stdout; "{}", answer.length)
 }
 
-fn write_byte(byte: u8) {
-    space();
-    io::print_hex(1, byte as u64, 2);
+fn write_byte(stdout: Stdout, byte: u8) -> io::Result<()> {
+    space(stdout)?;
+    print!(stdout; "{byte:02x}")
 }
 
-fn write_bytes(bytes: &[u8]) {
+fn write_bytes(stdout: Stdout, bytes: &[u8]) -> io::Result<()> {
     let mut i = 0;
     while i < bytes.len() {
-        write_byte(bytes[i]);
+        write_byte(stdout, bytes[i])?;
         i += 1;
     }
+    Ok(())
 }
 
 // The cut of a card by a lifeline, with so many bytes of an output lent.
-fn show_in(card: &[u8], lifeline: u32, lent: usize, out: &mut [u8])
+fn show_in(
+    stdout: Stdout,
+    card: &[u8],
+    lifeline: u32,
+    lent: usize,
+    out: &mut [u8],
+) -> io::Result<()>
     requires { lent ≤ length out.old }
 {
     let answer = cut::cut(card, lifeline, &mut out[0..lent]);
-    write_answer(answer);
-    write_bytes(out);
-    end_line();
+    write_answer(stdout, answer)?;
+    write_bytes(stdout, out)?;
+    end_line(stdout)
 }
 
-fn show(card: &[u8], lifeline: u32, lent: usize)
+fn show(stdout: Stdout, card: &[u8], lifeline: u32, lent: usize) -> io::Result<()>
     requires { lent ≤ 24 }
 {
     let mut out = [0xEEu8; OUT];
-    show_in(card, lifeline, lent, &mut out);
+    show_in(stdout, card, lifeline, lent, &mut out)
 }
 
 // "Cutting lifeline 0 from alt(0!0, 1!0) leaves 1!0; from 0!0 it gives 12; from a strict loop of 0!0 it leaves empty."
-fn examples() {
+fn examples(stdout: Stdout) -> io::Result<()> {
     show(
+        stdout,
         b"\x01\x00\x00\x00\x01\x01\x00\x00\x06\x00\x01\x00\x0c\x00\x02\x01\x57\x4c",
         0,
         24,
-    );
-    show(b"\x01\x00\x00\x00\x04\x00\x02\x01\x57\x4c", 0, 24);
+    )?;
+    show(stdout, b"\x01\x00\x00\x00\x04\x00\x02\x01\x57\x4c", 0, 24)?;
     show(
+        stdout,
         b"\x01\x00\x00\x00\x07\x00\x00\x00\x08\x00\x02\x01\x57\x4c",
         0,
         24,
-    );
+    )
 }
 
 // Each refusal of a card, 1 to 6, with a lifeline that is not declared and no output; then 11 and 12, both with no
 // output; then 13 with one byte too few, and the same cut with just enough.
-fn refusals() {
-    show(b"\x57\x4c", 9, 0);
-    show(b"\x00\x00\x00\x00\x03\x00\x02\x01\x57\x4c", 9, 0);
-    show(b"\x00\x00\x00\x00\x04\x00\x11\x01\x57\x4c", 20, 0);
+fn refusals(stdout: Stdout) -> io::Result<()> {
+    show(stdout, b"\x57\x4c", 9, 0)?;
+    show(stdout, b"\x00\x00\x00\x00\x03\x00\x02\x01\x57\x4c", 9, 0)?;
+    show(stdout, b"\x00\x00\x00\x00\x04\x00\x11\x01\x57\x4c", 20, 0)?;
     show(
+        stdout,
         b"\x00\x00\x00\x00\x0b\x00\x00\x00\x08\x00\x02\x01\x57\x4c",
         9,
         0,
-    );
+    )?;
     show(
+        stdout,
         b"\x00\x00\x00\x00\x00\x00\x00\x00\x08\x00\x02\x01\x57\x4c",
         9,
         0,
-    );
+    )?;
     show(
+        stdout,
         b"\x00\x00\x00\x00\x07\x00\x00\x00\x07\x01\x00\x00\x07\x02\x00\x00\x07\x03\x00\x00\x07\x04\x00\x00\x07\x05\x00\x00\x07\x06\x00\x00\x07\x07\x00\x00\x07\x08\x00\x00\x07\x09\x00\x00\x07\x0a\x00\x00\x07\x0b\x00\x00\x07\x0c\x00\x00\x07\x0d\x00\x00\x07\x0e\x00\x00\x07\x0f\x00\x00\x44\x00\x02\x01\x57\x4c",
         9,
         0,
-    );
-    show(b"\x01\x00\x00\x00\x04\x00\x02\x01\x57\x4c", 2, 0);
-    show(b"\x01\x00\x00\x00\x04\x00\x02\x01\x57\x4c", 0, 0);
-    show(b"\x01\x00\x00\x00\x04\x00\x02\x01\x57\x4c", 1, 9);
-    show(b"\x01\x00\x00\x00\x04\x00\x02\x01\x57\x4c", 1, 10);
+    )?;
+    show(stdout, b"\x01\x00\x00\x00\x04\x00\x02\x01\x57\x4c", 2, 0)?;
+    show(stdout, b"\x01\x00\x00\x00\x04\x00\x02\x01\x57\x4c", 0, 0)?;
+    show(stdout, b"\x01\x00\x00\x00\x04\x00\x02\x01\x57\x4c", 1, 9)?;
+    show(stdout, b"\x01\x00\x00\x00\x04\x00\x02\x01\x57\x4c", 1, 10)
 }
 
 // A loop around a loop that becomes empty stays; nodes in another order, after a note, are written left part, right
 // part, parent when a declared lifeline that never acts is cut out; and an alt of which both sides are left stays an
 // alt.
-fn others() {
+fn others(stdout: Stdout) -> io::Result<()> {
     show(
+        stdout,
         b"\x01\x00\x00\x00\x07\x00\x00\x00\x07\x01\x00\x00\x0c\x00\x02\x01\x57\x4c",
         0,
         24,
-    );
+    )?;
     show(
+        stdout,
         b"paddy\x02\x01\x00\x00\x01\x00\x00\x00\x04\x01\x00\x00\x0c\x00\x03\x01\x57\x4c",
         2,
         24,
-    );
+    )?;
     show(
+        stdout,
         b"\x02\x01\x00\x00\x01\x01\x00\x00\x06\x01\x00\x00\x0c\x00\x02\x01\x57\x4c",
         0,
         24,
-    );
+    )
 }
 
-fn main() {
-    examples();
-    refusals();
-    others();
+fn main(rt: HostRuntime) -> io::Result<()> {
+    let stdout = rt.stdout();
+    examples(stdout)?;
+    refusals(stdout)?;
+    others(stdout)
 }

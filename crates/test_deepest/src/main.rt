@@ -10,35 +10,37 @@ ghost use Rattle.room_spec.specs.Room.{Table, Rooted};
 use node::Node;
 use room_lay::Laid;
 use room_spec::{Action, Executed, Pruned, Root};
+use std::io;
+use std::io::Stdout;
 
-fn say_whether(text: &[u8], is: bool) {
-    io::write_all(1, text);
+fn say_whether(stdout: Stdout, text: &[u8], is: bool) -> io::Result<()> {
+    stdout.write_all(text)?;
     if is {
-        io::write_all(1, b" yes\n");
+        stdout.write_all(b" yes\n")
     } else {
-        io::write_all(1, b" no\n");
+        stdout.write_all(b" no\n")
     }
 }
 
-fn count(text: &[u8], number: u32) {
-    io::write_all(1, text);
-    io::print_decimal(1, number as u64);
-    io::write_all(1, b"\n");
+fn count(stdout: Stdout, text: &[u8], number: u32) -> io::Result<()> {
+    stdout.write_all(text)?;
+    print!(stdout; "{number}")?;
+    stdout.write_all(b"\n")
 }
 
-fn tell(places: u32, depth: u32, terminates: bool, evades: bool) {
-    count(b"places ", places);
-    count(b"depth ", depth);
-    say_whether(b"terminates", terminates);
-    say_whether(b"evades lifeline 1", evades);
+fn tell(stdout: Stdout, places: u32, depth: u32, terminates: bool, evades: bool) -> io::Result<()> {
+    count(stdout, b"places ", places)?;
+    count(stdout, b"depth ", depth)?;
+    say_whether(stdout, b"terminates", terminates)?;
+    say_whether(stdout, b"evades lifeline 1", evades)
 }
 
-fn tell_pruned(exceeds: bool) {
-    say_whether(b"pruned by lifeline 1 it exceeds the room", exceeds);
+fn tell_pruned(stdout: Stdout, exceeds: bool) -> io::Result<()> {
+    say_whether(stdout, b"pruned by lifeline 1 it exceeds the room", exceeds)
 }
 
-fn tell_executed(exceeds: bool) {
-    say_whether(b"executed by 0!1 it exceeds the room", exceeds);
+fn tell_executed(stdout: Stdout, exceeds: bool) -> io::Result<()> {
+    say_whether(stdout, b"executed by 0!1 it exceeds the room", exceeds)
 }
 
 // The depth of the chart at a place, counting its root as 1.
@@ -79,21 +81,22 @@ fn grow(room: &mut [u32], root: Root, action: Action, times: u32) -> Root
 
 // The execution rules on the chart at a root: the places in use with it and its depth, whether it terminates and evades
 // a lifeline, and whether pruning it and executing it once more exceed the room.
-fn ask(room: &mut [u32], root: Root)
+fn ask(stdout: Stdout, room: &mut [u32], root: Root) -> io::Result<()>
     requires { Table room.old root.used × Rooted room.old root.place × root.place < root.used }
 {
     let place = root.place;
     tell(
+        stdout,
         root.used,
         depth(room, place),
         room_ask::terminates(room, place),
         room_ask::evades(room, place, 1),
-    );
+    )?;
     let pruned = room_prune::prune(room, place, 1, root.used);
     let Pruned::Part(part) = pruned else {
-        return;
+        return Ok(());
     };
-    tell_pruned(room.len() < part.used as usize);
+    tell_pruned(stdout, room.len() < part.used as usize)?;
     let action = Action {
         lifeline: 0,
         receives: false,
@@ -101,22 +104,22 @@ fn ask(room: &mut [u32], root: Root)
     };
     let executed = room_execute::execute(room, place, action, 0, root.used);
     let Executed::FollowUp(x) = executed else {
-        return;
+        return Ok(());
     };
-    tell_executed(room.len() < x.used as usize);
+    tell_executed(stdout, room.len() < x.used as usize)
 }
 
 // Lays the card, executes the log, and asks.
-fn run(card: &[u8], room: &mut [u32])
+fn run(stdout: Stdout, card: &[u8], room: &mut [u32]) -> io::Result<()>
     requires { length room.old ≤ 16384 }
 {
     let checked = card_check::check(card);
     if checked.number != number::OK {
-        return;
+        return Ok(());
     }
     let laid = room_lay::lay(card, room);
     let Laid::Whole(root) = laid else {
-        return;
+        return Ok(());
     };
     let many = grow(
         room,
@@ -138,13 +141,14 @@ fn run(card: &[u8], room: &mut [u32])
         },
         1,
     );
-    ask(room, all);
+    ask(stdout, room, all)
 }
 
-fn main() {
+fn main(rt: HostRuntime) -> io::Result<()> {
     let mut room = [0u32; 16384];
     run(
+        rt.stdout(),
         b"\x01\x00\x01\x00\x09\x00\x00\x00\x09\x01\x00\x00\x09\x02\x00\x00\x09\x03\x00\x00\x09\x04\x00\x00\x09\x05\x00\x00\x09\x06\x00\x00\x09\x07\x00\x00\x09\x08\x00\x00\x09\x09\x00\x00\x09\x0a\x00\x00\x09\x0b\x00\x00\x01\x00\x02\x00\x03\x0c\x0d\x00\x01\x00\x00\x00\x06\x0f\x0e\x00\x09\x10\x00\x00\x48\x00\x01\x03\x57\x4c",
         &mut room,
-    );
+    )
 }
