@@ -70,7 +70,8 @@ module _ (card log lent : List ℕ) where
       → (judgment (take m card) (take 257 log) allowance (length lent)).number ≡ 7
   a_longer_log_is_refused e m sound =
       let long : 256 < length (take 257 log) = omega (arith, length-take 257 log) in
-      ((refused_exactly_as_the_table_tells (take m card) (take 257 log) allowance lent 7 0).1 (seven sound (inr long))).1
+      ((refused_exactly_as_the_table_tells (take m card) (take 257 log) allowance lent 7 0).1
+      (seven sound (inr long))).1
 
 -- ---- the line
 

@@ -11,6 +11,7 @@ pub no_trailer : (card : List ℕ) (k : ℕ) → length card < 6 → trailer_byt
 unfolding trailer_byte
 no_trailer card k h = rw (lt-ltb (length card) 6 h)
 
-pub trailer_there : (card : List ℕ) (k : ℕ) → 6 ≤ length card → trailer_byte card k ≡ get_or card (length card - 6 + k) 0
+pub trailer_there : (card : List ℕ) (k : ℕ) → 6 ≤ length card
+    → trailer_byte card k ≡ get_or card (length card - 6 + k) 0
 unfolding trailer_byte
 trailer_there card k h = rw (le-ltb (length card) 6 h)

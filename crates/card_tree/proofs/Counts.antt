@@ -23,7 +23,8 @@ use Rattle.card_tree.specs.Counting.{one_more, one_more_each}
 
 -- The count of k grows by one, and no other count grows.
 pub one_more_at :
-    (counts : List ℕ) (k j : ℕ) → k < length counts → get_or (one_more counts k) j 0 ≡ get_or counts j 0 + cond (eqb k j) 1 0
+    (counts : List ℕ) (k j : ℕ) → k < length counts
+    → get_or (one_more counts k) j 0 ≡ get_or counts j 0 + cond (eqb k j) 1 0
 one_more_at counts k j h = by (ℕ_discrete k j)
   where
     by : Dec (k ≡ j) → get_or (one_more counts k) j 0 ≡ get_or counts j 0 + cond (eqb k j) 1 0

@@ -66,7 +66,8 @@ module _ (c : Chart) (t : Log) (allowance room : ℕ) where
   pub accepted_exactly_if_published : Reaches c t allowance room → (given.number ≡ 20) ↔ Published c t
   accepted_exactly_if_published r =
       of_verdict c t allowance room (λ a. (a.number ≡ 20) ↔ Published c t) r
-      (accepted_iff (Published c) t (searched c t) (steps_of c t) (places_of c t) (search_decides_the_published_set c t))
+      (accepted_iff (Published c) t (searched c t) (steps_of c t) (places_of c t)
+      (search_decides_the_published_set c t))
 
   -- "It is short exactly if it does not belong but some longer log beginning with it does."
   pub short_exactly_if_only_a_longer_log_is : Reaches c t allowance room
@@ -80,7 +81,8 @@ module _ (c : Chart) (t : Log) (allowance room : ℕ) where
       → (given.number ≡ 22) ↔ (¬ Begins (Published c) t)
   deviates_exactly_if_it_begins_none r =
       of_verdict c t allowance room (λ a. (a.number ≡ 22) ↔ (¬ Begins (Published c) t)) r
-      (deviates_iff (Published c) t (searched c t) (steps_of c t) (places_of c t) (search_decides_the_published_set c t))
+      (deviates_iff (Published c) t (searched c t) (steps_of c t) (places_of c t)
+      (search_decides_the_published_set c t))
 
   -- which is neither accepted nor short,
   pub otherwise_it_deviates : Reaches c t allowance room
@@ -113,7 +115,8 @@ module _ (c : Chart) (t : Log) (allowance room : ℕ) where
   short_gives_the_length e =
       of_verdict c t allowance room (λ a. a.number ≡ 21 → a.place ≡ length t)
       ((verdict_iff_reaches c t allowance room).0 (inr (inl e)))
-      (short_place (Published c) t (searched c t) (steps_of c t) (places_of c t) (search_decides_the_published_set c t)) e
+      (short_place (Published c) t (searched c t) (steps_of c t) (places_of c t)
+      (search_decides_the_published_set c t)) e
 
   -- ---- Demand 3: steps and places
 

@@ -55,7 +55,8 @@ module _ (card log room : List ℕ) (allowance : ℕ) (sound : Sound card) where
       → judged_of (answer (card_chart card) (log_of log) allowance (length room)) ≡ returned (finding_of laid) searched
   returned_by_laying usable TooLittle laid =
       ap judged_of
-      (exceeding_answer (card_chart card) (log_of log) allowance (length room) (too_little_exceeds card room sound laid))
+      (exceeding_answer (card_chart card) (log_of log) allowance (length room)
+      (too_little_exceeds card room sound laid))
   returned_by_laying usable (Whole root) laid =
       ap judged_of
       (fitting_answer (card_chart card) (log_of log) allowance (length room)

@@ -57,7 +57,8 @@ module _ (room : List ℕ) where
   left_length (Refused number place) = refl
 
 module _ (card log room : List ℕ) where
-  pub kept_beyond : (i none : ℕ) → usable (length room) ≤ i → get_or (room_after card log room) i none ≡ get_or room i none
+  pub kept_beyond : (i none : ℕ) → usable (length room) ≤ i
+      → get_or (room_after card log room) i none ≡ get_or room i none
   unfolding room_after
   kept_beyond i none h = left_beyond room (refusal card log) i none h
 

@@ -18,7 +18,8 @@ use Rattle.node_spec.specs.Kind.{Kind, kind_of, all_kinds, Pair}
 use Rattle.node_spec.specs.Kind.Pair.{composed, choice}
 use Rattle.node_spec.specs.Kind.Kind.{nothing, action, pairs, loops, unknown}
 
-member : {A : Type 0} (C : A → Kind) (xs : List A) (j : ℕ) → j < length xs → (x : A) × (get_or (map C xs) j unknown ≡ C x)
+member : {A : Type 0} (C : A → Kind) (xs : List A) (j : ℕ) → j < length xs
+    → (x : A) × (get_or (map C xs) j unknown ≡ C x)
 member C [] j h = absurd (omega arith)
 member C (x ∷ xs) zero h = (x, refl)
 member C (x ∷ xs) (suc j) h = member C xs j (omega arith)
@@ -34,7 +35,8 @@ listed C xs low part k from to =
     let (x, e) = member C xs j (omega arith) in (
       x,
       ap (λ n. get_or all_kinds n unknown) same ∙ sym (get_or-drop low all_kinds j unknown)
-          ∙ sym (get_or-take (length xs) (drop low all_kinds) j unknown (omega arith)) ∙ ap (λ l. get_or l j unknown) part
+          ∙ sym (get_or-take (length xs) (drop low all_kinds) j unknown (omega arith)) ∙ ap (λ l. get_or l j unknown)
+          part
           ∙ e,
     )
 

@@ -64,7 +64,12 @@ length_written first (pair o l r) =
       length_written (first + size l) r,
     )
 length_written first (loop k b) =
-    omega (arith, length-append (written first b) (node_as (loops k) (root_from first b) 0 ∷ []), length_written first b)
+    omega (
+      arith,
+      length-append (written first b) (node_as (loops k) (root_from first b) 0 ∷ []),
+      length_written first
+          b,
+    )
 
 -- ---- read back
 

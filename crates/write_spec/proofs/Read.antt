@@ -151,7 +151,8 @@ module _ (lifelines messages : ℕ) (c : Chart) where
     passed =
         let size_few = holds.few_nodes in
         let size_some = at_least_one c in
-        let ends : (trailer_byte card 4 ≡ 0x57) × (trailer_byte card 5 ≡ 0x4C) = (trailer_byte_lem 4, trailer_byte_lem 5) in
+        let ends : (trailer_byte card 4 ≡ 0x57) × (trailer_byte card 5 ≡ 0x4C) =
+        (trailer_byte_lem 4, trailer_byte_lem 5) in
         record {
           one = rw (
             le-leb 6 (length card) (omega (arith, length_card)),
@@ -177,7 +178,8 @@ module _ (lifelines messages : ℕ) (c : Chart) where
 
     in_order_lem :
         (i : ℕ) → i < count_of (nodes_of card)
-        → in_order (lifelines_of card) (messages_of card) i (node_at (nodes_of card) i) (spare_at (nodes_of card) i) ≡ true
+        → in_order (lifelines_of card) (messages_of card) i (node_at (nodes_of card) i) (spare_at (nodes_of card) i) ≡
+        true
     in_order_lem i h =
         let inside : i < length (written 0 c) = omega (arith, count, length_written 0 c) in
         let n = get_or (written 0 c) i blank in
@@ -186,7 +188,8 @@ module _ (lifelines messages : ℕ) (c : Chart) where
         let spare : spare_at (nodes_of card) i ≡ 0
         = ap (λ bytes. spare_at bytes i) nodes ∙ record_spare (written 0 c) i inside in
         let number : 0 + i ≡ i = omega arith in
-        ap (λ l. in_order l (messages_of card) i (node_at (nodes_of card) i) (spare_at (nodes_of card) i)) declares_lifelines
+        ap (λ l. in_order l (messages_of card) i (node_at (nodes_of card) i) (spare_at (nodes_of card) i))
+        declares_lifelines
         ∙ ap (λ m. in_order lifelines m i (node_at (nodes_of card) i) (spare_at (nodes_of card) i)) declares_messages
         ∙ ap (λ m. in_order lifelines messages i m (spare_at (nodes_of card) i)) node
         ∙ ap (in_order lifelines messages i n) spare

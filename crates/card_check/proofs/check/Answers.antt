@@ -10,9 +10,9 @@ use Rattle.card_check.proofs.check.Goals as goal
 use Rattle.card_check.proofs.check.Goals.{After-lowest_faulty-fault, After-nodes-nodes, In_default}
 
 -- Where the code reads the nodes, the card has passed rules 1 to 3.
-passed-so-far : (c : After-nodes-nodes) → Passed
+passed_so_far : (c : After-nodes-nodes) → Passed
     c.args.card.now
-passed-so-far c =
+passed_so_far c =
     record {
       one = test_passed c.is_framed.ensures
           c.if-not-is_framed.false-raw;
@@ -23,12 +23,12 @@ passed-so-far c =
     }
 
 -- What `lowest_faulty` found in the nodes is what the definition finds in the card.
-faults-found :
+faults_found :
     (c : After-lowest_faulty-fault)
     → faults
     c.args.card.now
     ≡ c.lowest_faulty-fault.result
-faults-found c =
+faults_found c =
     found_of_the_card
     c.args.card.now
     _ _ _
@@ -36,9 +36,9 @@ faults-found c =
     c.lowest_faulty-fault.ensures
 
 -- What the passes over the nodes require.
-nodes-faultless : (c : In_default) → Passed c.args.card.now → faults c.args.card.now ≡ c.lowest_faulty-fault.result
+nodes_faultless : (c : In_default) → Passed c.args.card.now → faults c.args.card.now ≡ c.lowest_faulty-fault.result
     → Faultless c.nodes-nodes.result.now
-nodes-faultless c p e =
+nodes_faultless c p e =
     rw c.nodes-nodes.ensures
     (faultless c.args.card.now (back→ c.args.card.now p.two) (has_few_lifelines c.args.card.now p.three)
     (e ∙ c.in_default.is))
@@ -69,13 +69,13 @@ returns-then-not-are_counts_in_range c =
 pub returns-in-Refused : goal.returns-in-Refused
 returns-in-Refused c =
     c.refused-in-Refused.ensures
-    ∙ sym (answer_four _ (passed-so-far (goal.at.returns-in-Refused c).After-nodes-nodes) _ _
-    (faults-found (goal.at.returns-in-Refused c).After-lowest_faulty-fault ∙ c.in-Refused.is))
+    ∙ sym (answer_four _ (passed_so_far (goal.at.returns-in-Refused c).After-nodes-nodes) _ _
+    (faults_found (goal.at.returns-in-Refused c).After-lowest_faulty-fault ∙ c.in-Refused.is))
 
 pub lowest_misused-misuse-requires : goal.lowest_misused-misuse-requires
 lowest_misused-misuse-requires c =
-    nodes-faultless c (passed-so-far (goal.at.lowest_misused-misuse-requires c).After-nodes-nodes)
-    (faults-found (goal.at.lowest_misused-misuse-requires c).After-lowest_faulty-fault)
+    nodes_faultless c (passed_so_far (goal.at.lowest_misused-misuse-requires c).After-nodes-nodes)
+    (faults_found (goal.at.lowest_misused-misuse-requires c).After-lowest_faulty-fault)
 
 pub returns-in-Refused-misuse : goal.returns-in-Refused-misuse
 returns-in-Refused-misuse c =
@@ -83,13 +83,15 @@ returns-in-Refused-misuse c =
     c.lowest_misused-misuse.ensures in
     c.refused-in-Refused-misuse.ensures
     ∙ sym
-    (answer_five _ (passed-so-far (goal.at.returns-in-Refused-misuse c).After-nodes-nodes) _ _
-    (faults-found (goal.at.returns-in-Refused-misuse c).After-lowest_faulty-fault ∙ c.in_default.is) (sym misuse ∙ c.in-Refused-misuse.is))
+    (answer_five _ (passed_so_far (goal.at.returns-in-Refused-misuse c).After-nodes-nodes) _ _
+    (faults_found (goal.at.returns-in-Refused-misuse c).After-lowest_faulty-fault ∙ c.in_default.is)
+    (sym misuse ∙ c.in-Refused-misuse.is))
 
 pub depth-depth-requires : goal.depth-depth-requires
 depth-depth-requires c =
-    nodes-faultless (goal.at.depth-depth-requires c).In_default (passed-so-far (goal.at.depth-depth-requires c).After-nodes-nodes)
-    (faults-found (goal.at.depth-depth-requires c).After-lowest_faulty-fault)
+    nodes_faultless (goal.at.depth-depth-requires c).In_default
+    (passed_so_far (goal.at.depth-depth-requires c).After-nodes-nodes)
+    (faults_found (goal.at.depth-depth-requires c).After-lowest_faulty-fault)
 
 pub returns-then-depth-gt-DEPTH : goal.returns-then-depth-gt-DEPTH
 returns-then-depth-gt-DEPTH c =
@@ -98,13 +100,14 @@ returns-then-depth-gt-DEPTH c =
     let deep = rw nodes at c.depth-depth.ensures in
     c.refused-then-depth-gt-DEPTH.ensures
     ∙ sym
-    (answer_six _ (passed-so-far (goal.at.returns-then-depth-gt-DEPTH c).After-nodes-nodes) (faults-found (goal.at.returns-then-depth-gt-DEPTH c).After-lowest_faulty-fault ∙ c.in_default.is)
+    (answer_six _ (passed_so_far (goal.at.returns-then-depth-gt-DEPTH c).After-nodes-nodes)
+    (faults_found (goal.at.returns-then-depth-gt-DEPTH c).After-lowest_faulty-fault ∙ c.in_default.is)
     (sym misuse ∙ c.in_default-misuse.is) (rw deep at c.if-depth-gt-DEPTH.true))
 
 pub acting-requires : goal.acting-requires
 acting-requires c =
-    nodes-faultless (goal.at.acting-requires c).In_default (passed-so-far (goal.at.acting-requires c).After-nodes-nodes)
-    (faults-found (goal.at.acting-requires c).After-lowest_faulty-fault)
+    nodes_faultless (goal.at.acting-requires c).In_default (passed_so_far (goal.at.acting-requires c).After-nodes-nodes)
+    (faults_found (goal.at.acting-requires c).After-lowest_faulty-fault)
 
 pub returns : goal.returns
 returns c =
@@ -113,5 +116,6 @@ returns c =
     let deep = rw nodes at c.depth-depth.ensures in
     rw (c.count.ensures, c.acting.ensures, c.depth-depth.ensures, nodes)
     (sym
-    (answer_sound _ (passed-so-far (goal.at.returns c).After-nodes-nodes) (faults-found (goal.at.returns c).After-lowest_faulty-fault ∙ c.in_default.is)
+    (answer_sound _ (passed_so_far (goal.at.returns c).After-nodes-nodes)
+    (faults_found (goal.at.returns c).After-lowest_faulty-fault ∙ c.in_default.is)
     (sym misuse ∙ c.in_default-misuse.is) (rw deep at c.if-depth-gt-DEPTH.false)))

@@ -26,13 +26,13 @@ pub returns-then-n-lifelines : goal.returns-then-n-lifelines
 returns-then-n-lifelines c =
     let s = c.args in
     let (r, e) = one_and_two_are_actions s.n.kind
-    (omega (arith, c.in-1-to-2.in_default-own.rest.1)) (omega arith) in
+    (omega arith) (omega arith) in
     rw (eq-eqb _ _ c.if-c-ne0.false, e, lt-ltb _ _ c.if-n-lifelines.true)
 
 pub returns-else-n-lifelines : goal.returns-else-n-lifelines
 returns-else-n-lifelines c =
     let s = c.args in
-    let (r, e) = one_and_two_are_actions s.n.kind (omega (arith, c.in-1-to-2.in_default-own.rest.1))
+    let (r, e) = one_and_two_are_actions s.n.kind (omega arith)
     (omega arith) in
     rw (eq-eqb _ _ c.if-c-ne0.false, e, le-ltb _ _ c.if-n-lifelines.false)
 
@@ -70,4 +70,4 @@ returns-else-n-eq0-2 c =
 
 pub returns-in_default : goal.returns-in_default
 returns-in_default c =
-    rw (eq-eqb _ _ c.if-c-ne0.false, above_ten_is_unknown _ c.in_default.if-kind-lt11-own.false)
+    rw (eq-eqb _ _ c.if-c-ne0.false, above_ten_is_unknown c.args.n.kind (omega arith))

@@ -8,7 +8,7 @@ use Rattle.card_figures.proofs.actor.Goals.{In-1-to-2}
 
 -- The lifeline of an action has a bit in the set.
 held : (c : In-1-to-2) → c.args.n.a < 16
-held c = actor_is_held c.args.n (omega (arith, c.in-1-to-2.in_default-own.rest.1)) (omega arith)
+held c = actor_is_held c.args.n (omega arith) (omega arith)
     c.requires
 
 pub overflow_cast-result : goal.overflow_cast-result
@@ -26,7 +26,7 @@ returns-in-0 c =
 
 pub returns-in-1-to-2 : goal.returns-in-1-to-2
 returns-in-1-to-2 c =
-    sym (one_actor c.args.n (omega (arith, c.in-1-to-2.in_default-own.rest.1))
+    sym (one_actor c.args.n (omega arith)
     (omega arith) (held (goal.at.returns-in-1-to-2 c).In-1-to-2))
 
 pub returns-in_default : goal.returns-in_default

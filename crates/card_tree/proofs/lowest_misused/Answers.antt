@@ -26,7 +26,8 @@ returns-then-counts-j-ne1 c =
     let nodes = c.args.nodes.now in
     let at = c.loop-j in
     let bad : misuse_of (row_of nodes) at.j ≡ 5
-    = misused_as_counted (row_of nodes) at.j _ (counted (goal.at.returns-then-counts-j-ne1 c).In-loop-j) c.if-counts-j-ne1.true in
+    = misused_as_counted (row_of nodes) at.j _ (counted (goal.at.returns-then-counts-j-ne1 c).In-loop-j)
+    c.if-counts-j-ne1.true in
     ap (λ number. Refused number at.j) (sym bad)
     ∙ sym
     (found_here (misuse_of (row_of nodes)) at.j (count_of nodes - 1) (omega arith) at.invariant.1

@@ -9,8 +9,8 @@ use Rattle.cut.proofs.cut.Goals as goal
 use Rattle.cut.proofs.cut.Goals.{Else-number-ne-OK}
 
 -- A card that was not refused is sound.
-card-sound : (c : Else-number-ne-OK) → Sound c.args.card.now
-card-sound c =
+card_sound : (c : Else-number-ne-OK) → Sound c.args.card.now
+card_sound c =
     (zero_exactly_for_sound_cards c.args.card.now).0
     (sym (ap (λ a. a.number) c.check-checked.ensures) ∙ c.if-number-ne-OK.false)
 
@@ -26,10 +26,11 @@ pub returns-then-lifelines-lifeline : goal.returns-then-lifelines-lifeline
 returns-then-lifelines-lifeline c =
     let s = c.args in
     let (answer, out) =
-    not_declared s.card.now s.lifeline s.out.now (card-sound (goal.at.returns-then-lifelines-lifeline c).Else-number-ne-OK)
+    not_declared s.card.now s.lifeline s.out.now (card_sound (goal.at.returns-then-lifelines-lifeline
+    c).Else-number-ne-OK)
     (omega (arith, c.lifelines.ensures)) in
     (c.refused-then-lifelines-lifeline.ensures ∙ answer, out)
 
 pub cut_in-requires : goal.cut_in-requires
 cut_in-requires c =
-    (card-sound (goal.at.cut_in-requires c).Else-number-ne-OK, omega (arith, c.lifelines.ensures), refl)
+    (card_sound (goal.at.cut_in-requires c).Else-number-ne-OK, omega (arith, c.lifelines.ensures), refl)

@@ -25,4 +25,5 @@ returns-then-not-is_declared c =
     let at = c.loop-i in
     sym
     (undeclared_is_found s.lifelines s.messages s.log.now at.i at.invariant.1 (actions_of s.log.now)
-    (omega arith) (test_failed (asked (goal.at.returns-then-not-is_declared c).After-is_declared) c.if-not-is_declared.true-raw))
+    (omega arith) (test_failed (asked (goal.at.returns-then-not-is_declared c).After-is_declared)
+    c.if-not-is_declared.true-raw))

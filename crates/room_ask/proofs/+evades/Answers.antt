@@ -36,23 +36,27 @@ at_place c = c.decreases
 pub evades-requires : goal.evades-requires
 evades-requires t c =
     let six = c.in-6.is in
-    let (lower, root) = left_lower (reading (goal.at.evades-requires t c).After-read-node) (omega arith) (omega arith) in
+    let (lower, root) = left_lower (reading (goal.at.evades-requires t c).After-read-node) (omega arith)
+    (omega arith) in
     (omega (arith, at_place (goal.at.evades-requires t c).After-read-node), root)
 
 pub evades-requires-else-evades : goal.evades-requires-else-evades
 evades-requires-else-evades t c =
     let six = c.in-6.is in
-    let (lower, root) = right_lower (reading (goal.at.evades-requires-else-evades t c).After-read-node) (omega arith) (omega arith) in
+    let (lower, root) = right_lower (reading (goal.at.evades-requires-else-evades t c).After-read-node) (omega arith)
+    (omega arith) in
     (omega (arith, at_place (goal.at.evades-requires-else-evades t c).After-read-node), root)
 
 pub evades-requires-in-3-to-5 : goal.evades-requires-in-3-to-5
 evades-requires-in-3-to-5 t c =
-    let (lower, root) = left_lower (reading (goal.at.evades-requires-in-3-to-5 t c).After-read-node) (omega arith) (omega arith) in
+    let (lower, root) = left_lower (reading (goal.at.evades-requires-in-3-to-5 t c).After-read-node) (omega arith)
+    (omega arith) in
     (omega (arith, at_place (goal.at.evades-requires-in-3-to-5 t c).After-read-node), root)
 
 pub evades-requires-then-evades-2 : goal.evades-requires-then-evades-2
 evades-requires-then-evades-2 t c =
-    let (lower, root) = right_lower (reading (goal.at.evades-requires-then-evades-2 t c).After-read-node) (omega arith) (omega arith) in
+    let (lower, root) = right_lower (reading (goal.at.evades-requires-then-evades-2 t c).After-read-node)
+    (omega arith) (omega arith) in
     (omega (arith, at_place (goal.at.evades-requires-then-evades-2 t c).After-read-node), root)
 
 pub returns-in-0 : goal.returns-in-0
@@ -75,8 +79,8 @@ returns-else-evades t c =
 
 pub returns-in-1-to-2 : goal.returns-in-1-to-2
 returns-in-1-to-2 t c =
-    let some = c.in-1-to-2.in_default-own.rest.0 in
-    let (receives, e, acts) = action_here (reading (goal.at.returns-in-1-to-2 t c).After-read-node) (omega arith) (omega arith) in
+    let (receives, e, acts) = action_here (reading (goal.at.returns-in-1-to-2 t c).After-read-node) (omega arith)
+    (omega arith) in
     sym (ap (λ part. chart.evades part c.args.lifeline) acts)
 
 pub returns-then-evades-2 : goal.returns-then-evades-2

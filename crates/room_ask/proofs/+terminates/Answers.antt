@@ -36,23 +36,27 @@ at_place c = c.decreases
 pub terminates-requires : goal.terminates-requires
 terminates-requires t c =
     let six = c.in-6.is in
-    let (lower, root) = left_lower (reading (goal.at.terminates-requires t c).After-read-node) (omega arith) (omega arith) in
+    let (lower, root) = left_lower (reading (goal.at.terminates-requires t c).After-read-node) (omega arith)
+    (omega arith) in
     (omega (arith, at_place (goal.at.terminates-requires t c).After-read-node), root)
 
 pub terminates-requires-else-terminates : goal.terminates-requires-else-terminates
 terminates-requires-else-terminates t c =
     let six = c.in-6.is in
-    let (lower, root) = right_lower (reading (goal.at.terminates-requires-else-terminates t c).After-read-node) (omega arith) (omega arith) in
+    let (lower, root) = right_lower (reading (goal.at.terminates-requires-else-terminates t c).After-read-node)
+    (omega arith) (omega arith) in
     (omega (arith, at_place (goal.at.terminates-requires-else-terminates t c).After-read-node), root)
 
 pub terminates-requires-in-3-to-5 : goal.terminates-requires-in-3-to-5
 terminates-requires-in-3-to-5 t c =
-    let (lower, root) = left_lower (reading (goal.at.terminates-requires-in-3-to-5 t c).After-read-node) (omega arith) (omega arith) in
+    let (lower, root) = left_lower (reading (goal.at.terminates-requires-in-3-to-5 t c).After-read-node) (omega arith)
+    (omega arith) in
     (omega (arith, at_place (goal.at.terminates-requires-in-3-to-5 t c).After-read-node), root)
 
 pub terminates-requires-then-terminates-2 : goal.terminates-requires-then-terminates-2
 terminates-requires-then-terminates-2 t c =
-    let (lower, root) = right_lower (reading (goal.at.terminates-requires-then-terminates-2 t c).After-read-node) (omega arith) (omega arith) in
+    let (lower, root) = right_lower (reading (goal.at.terminates-requires-then-terminates-2 t c).After-read-node)
+    (omega arith) (omega arith) in
     (omega (arith, at_place (goal.at.terminates-requires-then-terminates-2 t c).After-read-node), root)
 
 pub returns-in-0 : goal.returns-in-0
@@ -60,7 +64,8 @@ returns-in-0 t c = yes_at_empty terminates_descends (reading (goal.at.returns-in
 
 pub returns-then-terminates : goal.returns-then-terminates
 returns-then-terminates t c =
-    alt_by_its_left terminates_descends (reading (goal.at.returns-then-terminates t c).After-read-node) c.terminates.result
+    alt_by_its_left terminates_descends (reading (goal.at.returns-then-terminates t c).After-read-node)
+    c.terminates.result
     c.terminates.ensures
     c.in-6.is c.if-terminates.true
 
@@ -73,15 +78,16 @@ returns-else-terminates t c =
 
 pub returns-in-1-to-2 : goal.returns-in-1-to-2
 returns-in-1-to-2 t c =
-    let some = c.in-1-to-2.in_default-own.rest.0 in
-    let (receives, e, acts) = action_here (reading (goal.at.returns-in-1-to-2 t c).After-read-node) (omega arith) (omega arith) in
+    let (receives, e, acts) = action_here (reading (goal.at.returns-in-1-to-2 t c).After-read-node) (omega arith)
+    (omega arith) in
     sym (ap chart.terminates acts)
 
 pub returns-then-terminates-2 : goal.returns-then-terminates-2
 returns-then-terminates-2 t c =
     pair_by_its_right terminates_descends (reading (goal.at.returns-then-terminates-2 t c).After-read-node)
     c.terminates-in-3-to-5.result c.terminates-in-3-to-5.ensures
-    c.terminates-then-terminates-2.result c.terminates-then-terminates-2.ensures (omega arith) (omega arith) c.if-terminates-2.true
+    c.terminates-then-terminates-2.result c.terminates-then-terminates-2.ensures (omega arith) (omega arith)
+    c.if-terminates-2.true
 
 pub returns-else-terminates-2 : goal.returns-else-terminates-2
 returns-else-terminates-2 t c =
@@ -91,7 +97,9 @@ returns-else-terminates-2 t c =
 
 pub returns-in-7-to-10 : goal.returns-in-7-to-10
 returns-in-7-to-10 t c =
-    yes_at_a_loop terminates_descends (reading (goal.at.returns-in-7-to-10 t c).After-read-node) (omega arith) (omega arith)
+    yes_at_a_loop terminates_descends (reading (goal.at.returns-in-7-to-10 t c).After-read-node) (omega arith)
+    (omega arith)
 
 pub returns-in_default : goal.returns-in_default
-returns-in_default t c = yes_at_the_unknown terminates_descends (reading (goal.at.returns-in_default t c).After-read-node) (omega arith)
+returns-in_default t c = yes_at_the_unknown terminates_descends
+    (reading (goal.at.returns-in_default t c).After-read-node) (omega arith)

@@ -35,9 +35,9 @@ abbrev action : {t : ℕ} (c : After-read-node t) → chart.Action
 action c = action_of c.args.action
 
 -- A pair was read, or a loop.
-is-pair : {t : ℕ} (c : In-3-to-6 t)
+is_pair : {t : ℕ} (c : In-3-to-6 t)
     → (3 ≤ c.read-node.result.kind) × (c.read-node.result.kind ≤ 6)
-is-pair c = (omega arith, omega arith)
+is_pair c = (omega arith, omega arith)
 
 is_loop : {t : ℕ} (c : In-7-to-10 t)
     → (7 ≤ c.read-node.result.kind)
@@ -51,38 +51,43 @@ at_place c = c.decreases
 pub execute-left-requires : goal.execute-left-requires
 execute-left-requires t c =
     let after_read_node = (goal.at.execute-left-requires t c).After-read-node in
-    let (low, high) = is-pair (goal.at.execute-left-requires t c).In-3-to-6 in
-    let (lower, asks) = asks_left (work after_read_node) (occurrence after_read_node) (action after_read_node) low high in
+    let (low, high) = is_pair (goal.at.execute-left-requires t c).In-3-to-6 in
+    let (lower, asks) = asks_left (work after_read_node) (occurrence after_read_node) (action after_read_node) low
+    high in
     (omega (arith, at_place after_read_node), asks)
 
 pub on_left-requires : goal.on_left-requires
 on_left-requires t c =
     let after_read_node = (goal.at.on_left-requires t c).After-read-node in
-    let (low, high) = is-pair (goal.at.on_left-requires t c).In-3-to-6 in
+    let (low, high) = is_pair (goal.at.on_left-requires t c).In-3-to-6 in
     let made = rw c.in-FollowUp.is at c.execute-left.ensures in
-    asks_to_carry (work after_read_node) (occurrence after_read_node) (action after_read_node) low high c.execute-left.new.room c.in-FollowUp.x made
+    asks_to_carry (work after_read_node) (occurrence after_read_node) (action after_read_node) low high
+    c.execute-left.new.room c.in-FollowUp.x made
 
 pub execute-right-requires : goal.execute-right-requires
 execute-right-requires t c =
     let after_read_node = (goal.at.execute-right-requires t c).After-read-node in
-    let (low, high) = is-pair (goal.at.execute-right-requires t c).In-3-to-6 in
+    let (low, high) = is_pair (goal.at.execute-right-requires t c).In-3-to-6 in
     let none = rw c.in-Missing.is at c.execute-left.ensures in
-    let (lower, asks) = asks_right (work after_read_node) (occurrence after_read_node) (action after_read_node) low high c.execute-left.new.room c.in-Missing.more none in
+    let (lower, asks) = asks_right (work after_read_node) (occurrence after_read_node) (action after_read_node) low
+    high c.execute-left.new.room c.in-Missing.more none in
     (omega (arith, at_place after_read_node), asks)
 
 pub on_right-requires : goal.on_right-requires
 on_right-requires t c =
     let after_read_node = (goal.at.on_right-requires t c).After-read-node in
-    let (low, high) = is-pair (goal.at.on_right-requires t c).In-3-to-6 in
+    let (low, high) = is_pair (goal.at.on_right-requires t c).In-3-to-6 in
     let none = rw c.in-Missing.is at c.execute-left.ensures in
-    asks_to_turn (work after_read_node) (occurrence after_read_node) (action after_read_node) low high c.execute-left.new.room c.in-Missing.more none
+    asks_to_turn (work after_read_node) (occurrence after_read_node) (action after_read_node) low high
+    c.execute-left.new.room c.in-Missing.more none
     c.execute-right.new.room c.execute-right.result c.execute-right.ensures
 
 pub execute-round-requires : goal.execute-round-requires
 execute-round-requires t c =
     let after_read_node = (goal.at.execute-round-requires t c).After-read-node in
     let (low, high) = is_loop (goal.at.execute-round-requires t c).In-7-to-10 in
-    let (lower, asks) = asks_body (work after_read_node) (occurrence after_read_node) (action after_read_node) low high in
+    let (lower, asks) = asks_body (work after_read_node) (occurrence after_read_node) (action after_read_node) low
+    high in
     (omega (arith, at_place after_read_node), asks)
 
 pub returns-in_default-round : goal.returns-in_default-round
@@ -90,7 +95,8 @@ returns-in_default-round t c =
     let after_read_node = (goal.at.returns-in_default-round t c).After-read-node in
     let (low, high) = is_loop (goal.at.returns-in_default-round t c).In-7-to-10 in
     let none = rw c.in_default-round.is at c.execute-round.ensures in
-    rw c.in_default-round.is (no_round (work after_read_node) (occurrence after_read_node) (action after_read_node) low high c.execute-round.new.room c.in_default-round.field-0 none)
+    rw c.in_default-round.is (no_round (work after_read_node) (occurrence after_read_node) (action after_read_node)
+    low high c.execute-round.new.room c.in_default-round.field-0 none)
 
 pub returns-in-0 : goal.returns-in-0
 returns-in-0 t c =
@@ -100,27 +106,29 @@ returns-in-0 t c =
 pub returns-in-1-to-2 : goal.returns-in-1-to-2
 returns-in-1-to-2 t c =
     let after_read_node = (goal.at.returns-in-1-to-2 t c).After-read-node in
-    let some = c.in-1-to-2.in_default-own.rest.1 in
     let done = c.on_action in
-    at_an_action (work after_read_node) (occurrence after_read_node) (action after_read_node) done.new.room done.result (omega arith) (omega arith)
+    at_an_action (work after_read_node) (occurrence after_read_node) (action after_read_node) done.new.room
+    done.result (omega arith) (omega arith)
     done.ensures
 
 pub returns-in-FollowUp : goal.returns-in-FollowUp
 returns-in-FollowUp t c =
     let after_read_node = (goal.at.returns-in-FollowUp t c).After-read-node in
-    let (low, high) = is-pair (goal.at.returns-in-FollowUp t c).In-3-to-6 in
+    let (low, high) = is_pair (goal.at.returns-in-FollowUp t c).In-3-to-6 in
     let made = rw c.in-FollowUp.is at c.execute-left.ensures in
     let done = c.on_left in
-    on_its_left (work after_read_node) (occurrence after_read_node) (action after_read_node) low high c.execute-left.new.room c.in-FollowUp.x made
+    on_its_left (work after_read_node) (occurrence after_read_node) (action after_read_node) low high
+    c.execute-left.new.room c.in-FollowUp.x made
     done.new.room done.result done.ensures
 
 pub returns-in-Missing : goal.returns-in-Missing
 returns-in-Missing t c =
     let after_read_node = (goal.at.returns-in-Missing t c).After-read-node in
-    let (low, high) = is-pair (goal.at.returns-in-Missing t c).In-3-to-6 in
+    let (low, high) = is_pair (goal.at.returns-in-Missing t c).In-3-to-6 in
     let none = rw c.in-Missing.is at c.execute-left.ensures in
     let done = c.on_right in
-    on_its_right (work after_read_node) (occurrence after_read_node) (action after_read_node) low high c.execute-left.new.room c.in-Missing.more none
+    on_its_right (work after_read_node) (occurrence after_read_node) (action after_read_node) low high
+    c.execute-left.new.room c.in-Missing.more none
     c.execute-right.new.room c.execute-right.result c.execute-right.ensures
     done.new.room done.result done.ensures
 
@@ -130,7 +138,8 @@ returns-in-FollowUp-round t c =
     let (low, high) = is_loop (goal.at.returns-in-FollowUp-round t c).In-7-to-10 in
     let made = rw c.in-FollowUp-round.is at c.execute-round.ensures in
     let done = c.after_round in
-    one_round (work after_read_node) (occurrence after_read_node) (action after_read_node) low high c.execute-round.new.room c.in-FollowUp-round.x made
+    one_round (work after_read_node) (occurrence after_read_node) (action after_read_node) low high
+    c.execute-round.new.room c.in-FollowUp-round.x made
     done.new.room done.result done.ensures
 
 pub returns-in_default : goal.returns-in_default

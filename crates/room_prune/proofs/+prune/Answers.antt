@@ -45,9 +45,9 @@ abbrev lifeline : {t : ℕ} (c : After-read-node t) → ℕ
 lifeline c = c.args.lifeline
 
 -- A pair was read, or a loop.
-is-pair : {t : ℕ} (c : In-3-to-6 t)
+is_pair : {t : ℕ} (c : In-3-to-6 t)
     → (3 ≤ c.read-node.result.kind) × (c.read-node.result.kind ≤ 6)
-is-pair c = (omega arith, omega arith)
+is_pair c = (omega arith, omega arith)
 
 is_loop : {t : ℕ} (c : In-7-to-10 t)
     → (7 ≤ c.read-node.result.kind)
@@ -61,28 +61,31 @@ at_place c = c.decreases
 pub returns-then-node-lifeline : goal.returns-then-node-lifeline
 returns-then-node-lifeline t c =
     let after_read_node = (goal.at.returns-then-node-lifeline t c).After-read-node in
-    let some = c.in-1-to-2.in_default-own.rest.1 in
-    at_an_action_on_it (work after_read_node) (lifeline after_read_node) (omega arith) (omega arith) c.if-node-lifeline.true
+    at_an_action_on_it (work after_read_node) (lifeline after_read_node) (omega arith) (omega arith)
+    c.if-node-lifeline.true
 
 pub prune-left-requires : goal.prune-left-requires
 prune-left-requires t c =
     let after_read_node = (goal.at.prune-left-requires t c).After-read-node in
-    let (low, high) = is-pair (goal.at.prune-left-requires t c).In-3-to-6 in
+    let (low, high) = is_pair (goal.at.prune-left-requires t c).In-3-to-6 in
     let (lower, root) = left_lower (work after_read_node).reading low high in
     (omega (arith, at_place after_read_node), asks_left (work after_read_node) (lifeline after_read_node) low high)
 
 pub prune-requires : goal.prune-requires
 prune-requires t c =
     let after_read_node = (goal.at.prune-requires t c).After-read-node in
-    let (low, high) = is-pair (goal.at.prune-requires t c).In-3-to-6 in
+    let (low, high) = is_pair (goal.at.prune-requires t c).In-3-to-6 in
     let lost = rw c.in_default-left.is at c.prune-left.ensures in
-    let (lower, root) = right_lower (work after_read_node).reading low high in
-    (omega (arith, at_place after_read_node), asks_right_alone (work after_read_node) (lifeline after_read_node) low high c.prune-left.new.room lost)
+    let (lower, root) = right_lower (work after_read_node).reading low high in (
+      omega (arith, at_place after_read_node),
+      asks_right_alone (work after_read_node) (lifeline after_read_node) low
+          high c.prune-left.new.room lost,
+    )
 
 pub returns-then-kind-eq-ALT : goal.returns-then-kind-eq-ALT
 returns-then-kind-eq-ALT t c =
     let after_read_node = (goal.at.returns-then-kind-eq-ALT t c).After-read-node in
-    let (low, high) = is-pair (goal.at.returns-then-kind-eq-ALT t c).In-3-to-6 in
+    let (low, high) = is_pair (goal.at.returns-then-kind-eq-ALT t c).In-3-to-6 in
     let lost = rw c.in_default-left.is at c.prune-left.ensures in
     at_an_alt_by_its_right (work after_read_node) (lifeline after_read_node) low high c.prune-left.new.room lost
     c.prune.new.room c.prune.result c.if-kind-eq-ALT.true c.prune.ensures
@@ -90,17 +93,21 @@ returns-then-kind-eq-ALT t c =
 pub returns-in_default-left : goal.returns-in_default-left
 returns-in_default-left t c =
     let after_read_node = (goal.at.returns-in_default-left t c).After-read-node in
-    let (low, high) = is-pair (goal.at.returns-in_default-left t c).In-3-to-6 in
+    let (low, high) = is_pair (goal.at.returns-in_default-left t c).In-3-to-6 in
     let lost = rw c.in_default-left.is at c.prune-left.ensures in
-    at_a_lost_order (work after_read_node) (lifeline after_read_node) low high c.prune-left.new.room lost c.if-kind-eq-ALT.false
+    at_a_lost_order (work after_read_node) (lifeline after_read_node) low high c.prune-left.new.room lost
+    c.if-kind-eq-ALT.false
 
 pub prune-right-requires : goal.prune-right-requires
 prune-right-requires t c =
     let after_read_node = (goal.at.prune-right-requires t c).After-read-node in
-    let (low, high) = is-pair (goal.at.prune-right-requires t c).In-3-to-6 in
+    let (low, high) = is_pair (goal.at.prune-right-requires t c).In-3-to-6 in
     let left = rw c.in-Part.is at c.prune-left.ensures in
-    let (lower, root) = right_lower (work after_read_node).reading low high in
-    (omega (arith, at_place after_read_node), asks_right (work after_read_node) (lifeline after_read_node) low high c.prune-left.new.room c.in-Part.part left)
+    let (lower, root) = right_lower (work after_read_node).reading low high in (
+      omega (arith, at_place after_read_node),
+      asks_right (work after_read_node) (lifeline after_read_node) low high
+          c.prune-left.new.room c.in-Part.part left,
+    )
 
 pub prune-body-requires : goal.prune-body-requires
 prune-body-requires t c =
@@ -112,7 +119,8 @@ prune-body-requires t c =
 pub loop_of-requires : goal.loop_of-requires
 loop_of-requires t c =
     let after_read_node = (goal.at.loop_of-requires t c).After-read-node in
-    above_body (work after_read_node) (lifeline after_read_node) c.prune-body.new.room c.prune-body.result c.prune-body.ensures
+    above_body (work after_read_node) (lifeline after_read_node) c.prune-body.new.room c.prune-body.result
+    c.prune-body.ensures
 
 pub returns-in-0 : goal.returns-in-0
 returns-in-0 t c =
@@ -122,13 +130,13 @@ returns-in-0 t c =
 pub returns-else-node-lifeline : goal.returns-else-node-lifeline
 returns-else-node-lifeline t c =
     let after_read_node = (goal.at.returns-else-node-lifeline t c).After-read-node in
-    let some = c.in-1-to-2.in_default-own.rest.1 in
-    at_another_action (work after_read_node) (lifeline after_read_node) (omega arith) (omega arith) c.if-node-lifeline.false
+    at_another_action (work after_read_node) (lifeline after_read_node) (omega arith) (omega arith)
+    c.if-node-lifeline.false
 
 pub returns-in-Part : goal.returns-in-Part
 returns-in-Part t c =
     let after_read_node = (goal.at.returns-in-Part t c).After-read-node in
-    let (low, high) = is-pair (goal.at.returns-in-Part t c).In-3-to-6 in
+    let (low, high) = is_pair (goal.at.returns-in-Part t c).In-3-to-6 in
     let left = rw c.in-Part.is at c.prune-left.ensures in
     let done = c.pair_of.ensures in
     rw (done.0, done.1)

@@ -71,13 +71,15 @@ search-execute-answer-requires t c = still_stands (turn (goal.at.search-execute-
 
 pub search-returns-in_default : goal.search-returns-in_default
 search-returns-in_default t c =
-    no_choice_left (turn (goal.at.search-returns-in_default t c).At-loop-x) c.execute-answer.new.room c.in_default.field-0
+    no_choice_left (turn (goal.at.search-returns-in_default t c).At-loop-x) c.execute-answer.new.room
+    c.in_default.field-0
     (rw c.in_default.is at c.execute-answer.ensures)
 
 pub search-returns-in_default-ended : goal.search-returns-in_default-ended
 search-returns-in_default-ended t c =
     let tried = c.attempt-ended in
-    choice_settles (turn (goal.at.search-returns-in_default-ended t c).At-loop-x) c.execute-answer.new.room c.in-FollowUp.x
+    choice_settles (turn (goal.at.search-returns-in_default-ended t c).At-loop-x) c.execute-answer.new.room
+    c.in-FollowUp.x
     (rw c.in-FollowUp.is at c.execute-answer.ensures) tried.new.room tried.result tried.ensures
     (settled tried.result c.in_default-ended.not-Failed)
 
@@ -104,5 +106,6 @@ search-loop-x-preserved t c =
     let failed = c.in-Failed in
     rw c.larger-deepest.ensures
     (choice_fails (turn (goal.at.search-loop-x-preserved t c).At-loop-x) c.execute-answer.new.room c.in-FollowUp.x
-    (rw c.in-FollowUp.is at c.execute-answer.ensures) c.attempt-ended.new.room failed.beyond failed.unspent failed.highest
+    (rw c.in-FollowUp.is at c.execute-answer.ensures) c.attempt-ended.new.room failed.beyond failed.unspent
+    failed.highest
     (rw failed.is at c.attempt-ended.ensures))

@@ -123,10 +123,16 @@ returns-in-3-to-6 t c =
 
 pub returns-in-7-to-10 : goal.returns-in-7-to-10
 returns-in-7-to-10 t c =
-    omega (arith, c.count-in-7-to-10.ensures, a_loop_is_one_more (reading (goal.at.returns-in-7-to-10 t c).After-read-node) (omega arith) (omega arith))
+    omega (
+      arith,
+      c.count-in-7-to-10.ensures,
+      a_loop_is_one_more
+          (reading (goal.at.returns-in-7-to-10 t c).After-read-node) (omega arith) (omega arith),
+    )
 
 pub returns-in_default : goal.returns-in_default
 returns-in_default t c = sym (a_leaf_is_one (reading (goal.at.returns-in_default t c).After-read-node) (omega arith))
 
 pub returns-in_default-2 : goal.returns-in_default-2
-returns-in_default-2 t c = sym (the_unknown_is_one (reading (goal.at.returns-in_default-2 t c).After-read-node) (omega arith))
+returns-in_default-2 t c = sym (the_unknown_is_one (reading (goal.at.returns-in_default-2 t c).After-read-node)
+    (omega arith))

@@ -60,10 +60,10 @@ nothing_here r (inl low) = empty_here r (omega arith)
 nothing_here r (inr high) = unknown_here r (omega arith)
 
 -- A pair was read.
-is-pair :
+is_pair :
     {t : ℕ} (c : In-3-to-6 t)
     → (3 ≤ c.read-node.result.kind) × (c.read-node.result.kind ≤ 6)
-is-pair c = (omega arith, omega arith)
+is_pair c = (omega arith, omega arith)
 
 -- A loop was read.
 is_loop :
@@ -82,7 +82,7 @@ pub write-right-requires : goal.write-right-requires
 write-right-requires t c =
     let after_read_node = (goal.at.write-right-requires t c).After-read-node in
     let s = c.args in
-    let (low, high) = is-pair (goal.at.write-right-requires t c).In-3-to-6 in
+    let (low, high) = is_pair (goal.at.write-right-requires t c).In-3-to-6 in
     let (lower, root) = left_lower (reading after_read_node) low high in (
       omega (arith, at_place after_read_node),
       (root, asks_left (reading after_read_node) s.first s.out.now (writable after_read_node) low high),
@@ -92,7 +92,7 @@ pub write-parent-requires : goal.write-parent-requires
 write-parent-requires t c =
     let after_read_node = (goal.at.write-parent-requires t c).After-read-node in
     let s = c.args in
-    let (low, high) = is-pair (goal.at.write-parent-requires t c).In-3-to-6 in
+    let (low, high) = is_pair (goal.at.write-parent-requires t c).In-3-to-6 in
     let l = c.write-right in
     let (lower, root) = right_lower (reading after_read_node) low high in (
       omega (arith, at_place after_read_node),
@@ -117,7 +117,7 @@ pub put-requires-in-3-to-6 : goal.put-requires-in-3-to-6
 put-requires-in-3-to-6 t c =
     let after_read_node = (goal.at.put-requires-in-3-to-6 t c).After-read-node in
     let s = c.args in
-    let (low, high) = is-pair (goal.at.put-requires-in-3-to-6 t c).In-3-to-6 in
+    let (low, high) = is_pair (goal.at.put-requires-in-3-to-6 t c).In-3-to-6 in
     let l = c.write-right in
     let m = c.write-parent in
     asks_parent (reading after_read_node) s.first s.out.now (writable after_read_node) low high l.result
@@ -151,7 +151,8 @@ pub put-requires-in_default : goal.put-requires-in_default
 put-requires-in_default t c =
     let after_read_node = (goal.at.put-requires-in_default t c).After-read-node in
     let s = c.args in
-    asks_empty (reading after_read_node) s.first s.out.now (writable after_read_node) (nothing_here (reading after_read_node) (neither (goal.at.put-requires-in_default t c).In_default))
+    asks_empty (reading after_read_node) s.first s.out.now (writable after_read_node)
+    (nothing_here (reading after_read_node) (neither (goal.at.put-requires-in_default t c).In_default))
 
 pub returns-in-1-to-2 : goal.returns-in-1-to-2
 returns-in-1-to-2 t c =
@@ -166,7 +167,7 @@ pub returns-in-3-to-6 : goal.returns-in-3-to-6
 returns-in-3-to-6 t c =
     let after_read_node = (goal.at.returns-in-3-to-6 t c).After-read-node in
     let s = c.args in
-    let (low, high) = is-pair (goal.at.returns-in-3-to-6 t c).In-3-to-6 in
+    let (low, high) = is_pair (goal.at.returns-in-3-to-6 t c).In-3-to-6 in
     let l = c.write-right in
     let m = c.write-parent in
     let p = c.put-in-3-to-6 in
@@ -189,6 +190,7 @@ returns-in_default t c =
     let after_read_node = (goal.at.returns-in_default t c).After-read-node in
     let s = c.args in
     let p = c.put-in_default in
-    empty_written (reading after_read_node) s.first s.out.now (writable after_read_node) (nothing_here (reading after_read_node) (neither (goal.at.returns-in_default t c).In_default))
+    empty_written (reading after_read_node) s.first s.out.now (writable after_read_node)
+    (nothing_here (reading after_read_node) (neither (goal.at.returns-in_default t c).In_default))
     p.result p.new.out
     p.ensures
