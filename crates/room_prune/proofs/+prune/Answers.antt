@@ -1,25 +1,10 @@
 -- `prune` meets its contract: for each kind, what is left of the parts gives what pruning leaves.
 -- Assumes nothing.
-use mathlib.Core.Path.{◌≡◌, refl, ◌∙◌}
+use mathlib.Core.Path.{◌≡◌}
 use native.Mathlib.Omega.{arith}
 use Rattle.room_spec.proofs.Apart.{Working, left_lower, right_lower, body_lower}
-use Rattle.room_prune.proofs.Left.{
-  at_an_empty,
-  at_the_unknown,
-  at_another_action,
-  at_an_action_on_it,
-  asks_left,
-  at_a_lost_order,
-  asks_right_alone,
-  at_an_alt_by_its_right,
-  asks_right,
-  above_right,
-  at_a_pair,
-  asks_body,
-  above_body,
-  at_a_loop,
-}
-use Prim.Native.Nat.{ℕ, ◌<◌, ◌≤◌}
+use Rattle.room_prune.proofs.Left.{at_an_empty, at_the_unknown, at_another_action, at_an_action_on_it, asks_left, at_a_lost_order, asks_right_alone, at_an_alt_by_its_right, asks_right, at_a_pair, asks_body, above_body, at_a_loop}
+use Prim.Native.Nat.{ℕ, ◌≤◌}
 use Rattle.room_prune.proofs.+prune.Goals as goal
 use Rattle.room_prune.proofs.+prune.Goals.{After-read-node, In-3-to-6, In-7-to-10}
 
