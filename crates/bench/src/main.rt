@@ -2,6 +2,6 @@
 // defined in bench_spec/specs/.
 #![tactic(auto)]
 
-fn main() {
-    bench_files::run();
+fn main(rt: HostRuntime) {
+    bench_files::run(&rt);
 }

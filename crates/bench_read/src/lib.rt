@@ -3,8 +3,7 @@
 #![tactic(auto)]
 
 ghost use Rattle.std.specs.Prelude.{◌-◌, ◌≤◌, ◌≡◌};
-ghost use Rattle.libc.specs.Io.{Moved};
-ghost use Rattle.bench_spec.specs.Reading.{after_read};
+ghost use Rattle.bench_spec.specs.Reading.{Moved, after_read};
 
 use bench_spec::{Content, Turn};
 

@@ -1,10 +1,20 @@
 -- What an answer of the C library's `read` means.
 -- Assumes nothing.
-use Rattle.std.specs.Prelude.{ℕ, zero, suc, ◌+◌, Bool, true, false, eqb, ℤ, pos, negsuc}
+use Rattle.std.specs.Prelude.{ℕ, zero, suc, ◌+◌, ◌≤◌, ◌≡◌, Bool, true, false, eqb, ℤ, pos, negsuc, Result, Ok, Err}
 use Rattle.bench_spec.specs.declared.Content.{Content}
 use Rattle.bench_spec.specs.declared.Content.TheVariants.{Bytes, Nothing}
 use Rattle.bench_spec.specs.declared.Turn.{Turn}
 use Rattle.bench_spec.specs.declared.Turn.TheVariants.{On, Ended}
+
+-- What a call that is handed n bytes may answer: -1, or how many bytes it moved, at most n.
+abbrev pub Moved : ℕ → ℤ → Type 0
+Moved n (pos k) = k ≤ n
+Moved n (negsuc k) = k ≡ 0
+
+-- The answer that says what a result of Rattle's `read` says: how many bytes it put, or -1 if it failed.
+abbrev pub answer_of : {E : Type 0} → Result ℕ E → ℤ
+answer_of (Ok n) = pos n
+answer_of (Err e) = negsuc 0
 
 -- So many bytes were read. The first argument says whether they are all that fit.
 abbrev pub so_far : Bool → ℕ → Turn
@@ -18,8 +28,8 @@ after_read end long (negsuc k) = Ended Nothing
 after_read end long (pos zero) = Ended (Bytes end)
 after_read end long (pos (suc k)) = so_far (eqb (end + suc k) long) (end + suc k)
 
--- Bytes are read only from a file that could be opened: a negative descriptor says that it could not.
-abbrev pub OnlyIfOpen : Content → ℤ → Type 0
+-- Bytes are read only from a file that could be opened: an error says that it could not.
+abbrev pub OnlyIfOpen : {F E : Type 0} → Content → Result F E → Type 0
 OnlyIfOpen Nothing file = Unit
-OnlyIfOpen (Bytes n) (pos k) = Unit
-OnlyIfOpen (Bytes n) (negsuc k) = ⊥
+OnlyIfOpen (Bytes n) (Ok f) = Unit
+OnlyIfOpen (Bytes n) (Err e) = ⊥

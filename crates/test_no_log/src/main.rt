@@ -1,6 +1,6 @@
 // The bench tool where the file `log` is missing.
 #![tactic(auto)]
 
-fn main() {
-    bench_files::run();
+fn main(rt: HostRuntime) {
+    bench_files::run(&rt);
 }

@@ -1,6 +1,6 @@
 // The bench tool on a card whose root is its own left child: node 2 is refused.
 #![tactic(auto)]
 
-fn main() {
-    bench_files::run();
+fn main(rt: HostRuntime) {
+    bench_files::run(&rt);
 }
