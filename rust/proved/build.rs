@@ -1,4 +1,4 @@
-//! Links the proved library, which `rt staticlib airpistil` has built.
+//! Links the proved library, which `program/build library` has built.
 
 use std::path::Path;
 
@@ -9,7 +9,7 @@ fn main() {
     println!("cargo::rerun-if-changed={}", library.display());
     if !library.exists() {
         println!(
-            "cargo::error=target/staticlib/libairpistil.a is missing: run `rt staticlib airpistil` first"
+            "cargo::error=target/staticlib/libairpistil.a is missing: run `program/build library` first"
         );
     }
     println!("cargo::rustc-link-search=native={}", place.display());
