@@ -1,3 +1,4 @@
+-- The set holds the lifelines that act in the first i nodes; the nodes that are left get fewer. Assumes nothing.
 use Prim.Native.Nat.{◌≤◌, ◌-◌}
 use mathlib.Core.Path.{◌≡◌}
 use Rattle.card_spec.specs.Nodes.{row_to}

@@ -1,3 +1,4 @@
+-- After i turns the depths of the first i nodes are known; the nodes that are left get fewer. Assumes nothing.
 use Prim.Native.Nat.{◌≤◌, ◌-◌}
 use Rattle.card_figures.proofs.Depths.{Known}
 use Rattle.card_figures.proofs.depth.Given as goal

@@ -1,3 +1,4 @@
+-- After i turns the children of the first i nodes are counted; the nodes that are left get fewer. Assumes nothing.
 use Prim.Native.Nat.{◌≤◌, ◌-◌}
 use Rattle.card_tree.proofs.Counts.{Counted}
 use Rattle.card_tree.proofs.count_all.Given as goal

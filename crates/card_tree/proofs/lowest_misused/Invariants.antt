@@ -1,3 +1,4 @@
+-- Every node before j is a child once; the nodes that are left get fewer. Assumes nothing.
 use Prim.Native.Nat.{◌≤◌, ◌-◌}
 use mathlib.Core.Path.{◌≡◌}
 use Rattle.card_spec.specs.declared.Finding.TheVariants.{Fine}

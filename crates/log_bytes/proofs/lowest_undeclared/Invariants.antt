@@ -1,3 +1,4 @@
+-- Every action before i is declared; the actions that are left get fewer. Assumes nothing.
 use Prim.Native.Nat.{◌≤◌, ◌-◌}
 use mathlib.Core.Path.{◌≡◌}
 use Rattle.card_spec.specs.declared.Finding.TheVariants.{Fine}

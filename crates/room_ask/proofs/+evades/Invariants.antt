@@ -1,4 +1,4 @@
--- The place number falls at each call.
+-- The place number falls at each call. Assumes nothing.
 use Rattle.room_ask.proofs.+evades.Given as goal
 
 abbrev pub decreases-evades : goal.decreases-evades

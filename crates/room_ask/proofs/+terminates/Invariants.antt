@@ -1,4 +1,4 @@
--- The place number falls at each call.
+-- The place number falls at each call. Assumes nothing.
 use Rattle.room_ask.proofs.+terminates.Given as goal
 
 abbrev pub decreases-terminates : goal.decreases-terminates

@@ -1,3 +1,4 @@
+-- After i turns the first i nodes stand in the first i places, and the rest is as it was. Assumes nothing.
 use Prim.Native.Nat.{◌≤◌, ◌-◌}
 use mathlib.Core.Path.{◌≡◌}
 use Rattle.room_lay.specs.Rooms.{placed}

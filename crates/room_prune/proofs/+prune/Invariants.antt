@@ -1,4 +1,4 @@
--- The place number falls at each call.
+-- The place number falls at each call. Assumes nothing.
 use Rattle.room_prune.proofs.+prune.Given as goal
 
 abbrev pub decreases-prune : goal.decreases-prune

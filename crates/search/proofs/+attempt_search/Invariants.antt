@@ -1,5 +1,5 @@
 -- The log gets shorter at each call of `attempt`, and `attempt` goes on with the log that it was given; the occurrences
--- left get fewer at each turn of the loop.
+-- left get fewer at each turn of the loop. Assumes nothing.
 use Prim.Native.Nat.{◌*◌, ◌+◌, ◌-◌}
 use lib.ListN.{length}
 use Rattle.log_spec.specs.Bytes.{log_of}
