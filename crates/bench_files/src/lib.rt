@@ -6,7 +6,7 @@
 ghost use Rattle.std.specs.Prelude.{ℕ, ◌≡◌, ◌^◌, ◌<◌, length, IfOk};
 ghost use Rattle.bench_spec.specs.Telling.{ReadInto, told_of, room_told, Reports};
 ghost use Rattle.bench_spec.specs.Spelling.{line_of, printed};
-ghost use Rattle.bench_spec.specs.Reading.{OnlyIfOpen, answer_of};
+ghost use Rattle.bench_spec.specs.Reading.{OnlyIfOpen, descriptor_of, answer_of};
 
 use bench_spec::{Content, Told, Turn};
 use node::Node;
@@ -38,7 +38,7 @@ fn answer(read: io::Result<usize>) -> isize
 
 // Reads a file to its end, or as far as the lent bytes go. An error in place of the file says that it is missing.
 fn read<F: Read + Drop>(file: io::Result<F>, bytes: &mut [u8]) -> Content
-    ensures { OnlyIfOpen result file × ReadInto bytes.new result }
+    ensures { OnlyIfOpen result (descriptor_of file) × ReadInto bytes.new result }
 {
     let Ok(mut opened) = file else {
         return Content::Nothing;

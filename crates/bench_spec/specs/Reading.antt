@@ -16,6 +16,11 @@ abbrev pub answer_of : {E : Type 0} → Result ℕ E → ℤ
 answer_of (Ok n) = pos n
 answer_of (Err e) = negsuc 0
 
+-- The descriptor that says what opening a file said: one that is not negative, or -1 if it failed.
+abbrev pub descriptor_of : {F E : Type 0} → Result F E → ℤ
+descriptor_of (Ok f) = pos 0
+descriptor_of (Err e) = negsuc 0
+
 -- So many bytes were read. The first argument says whether they are all that fit.
 abbrev pub so_far : Bool → ℕ → Turn
 so_far true read = Ended (Bytes read)
@@ -28,8 +33,8 @@ after_read end long (negsuc k) = Ended Nothing
 after_read end long (pos zero) = Ended (Bytes end)
 after_read end long (pos (suc k)) = so_far (eqb (end + suc k) long) (end + suc k)
 
--- Bytes are read only from a file that could be opened: an error says that it could not.
-abbrev pub OnlyIfOpen : {F E : Type 0} → Content → Result F E → Type 0
+-- Bytes are read only from a file that could be opened: a negative descriptor says that it could not.
+abbrev pub OnlyIfOpen : Content → ℤ → Type 0
 OnlyIfOpen Nothing file = Unit
-OnlyIfOpen (Bytes n) (Ok f) = Unit
-OnlyIfOpen (Bytes n) (Err e) = ⊥
+OnlyIfOpen (Bytes n) (pos k) = Unit
+OnlyIfOpen (Bytes n) (negsuc k) = ⊥

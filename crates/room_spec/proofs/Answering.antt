@@ -66,9 +66,9 @@ module _ (before : List ℕ) (used : ℕ) (xs : List Made) (k : ℕ) where
         omega (arith, length-append xs ys),
         subst (λ m. Builds before used m after root) (sym same) (kept_then_builds begun keeps b),
       )
-  in_the_second ys middle after more (Missing still) begun (sum, keeps) (rest, KeepsOn) = (
+  in_the_second ys middle after more (Missing still) begun (sum, keeps) (rest, keeps_on) = (
     omega (arith, length-append xs ys),
-    kept_then used used before middle after (omega arith) keeps KeepsOn,
+    kept_then used used before middle after (omega arith) keeps keeps_on,
   )
 
 -- If there is no follow-up, all k are still to be passed over.

@@ -1,0 +1,2 @@
+-- Laws of reading.
+pub mod Answers
