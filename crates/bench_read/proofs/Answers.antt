@@ -43,7 +43,8 @@ same_test : (w : Width) (z : ℤ) → SFits w z → lt_z (to_z w (of_z w z)) (po
 same_test w z fits = ap (λ x. lt_z x (pos 0)) (to_z-of_z w z fits)
 
 pub a_negative_is_a_failure :
-    (got : ℤ) (end long : ℕ) → SFits w64 got → lt_z (read_out got) (pos 0) ≡ true → after_read end long got ≡ Ended Nothing
+    (got : ℤ) (end long : ℕ) → SFits w64 got → lt_z (read_out got) (pos 0) ≡ true
+    → after_read end long got ≡ Ended Nothing
 a_negative_is_a_failure got end long fits e = of_a_negative got end long (sym (same_test w64 got fits) ∙ e)
 
 pub zero_is_the_end :

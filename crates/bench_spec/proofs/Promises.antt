@@ -4,12 +4,13 @@
 -- definitions therefore holds of the code. Nothing here says that the contents are the files' own: no contract can
 -- speak of what is in a file.
 -- Assumes nothing.
-use Prim.Native.Nat.{ℕ, ◌<◌}
+use Prim.Native.Nat.{ℕ, ◌<◌, ◌≤◌}
 use mathlib.Core.List.{List, [], ◌∷◌, ◌++◌}
 use mathlib.Core.Logic.{◌↔◌, ◌⊎◌, ◌≢◌, inl, inr}
 use mathlib.Core.Path.{◌≡◌, refl, sym, ap, ◌∙◌}
 use native.Mathlib.Omega.{arith}
 use lib.ListN.{length, take, length-take}
+use Rattle.std.specs.Prelude.{Ok, Err}
 use Rattle.card_spec.specs.Table.{Sound}
 use Rattle.card_spec.specs.Table.Told.{one}
 use Rattle.card_spec.proofs.Example as card
@@ -21,6 +22,8 @@ use Rattle.bench_spec.specs.declared.Content.{Content}
 use Rattle.bench_spec.specs.declared.Content.TheVariants.{Bytes, Nothing}
 use Rattle.bench_spec.specs.declared.Told.{Told}
 use Rattle.bench_spec.specs.declared.Told.TheVariants.{Answer, NoFile}
+use Rattle.bench_spec.specs.declared.Turn.TheVariants.{Ended}
+use Rattle.bench_spec.specs.Reading.{Moved, answer_of, descriptor_of, after_read, OnlyIfOpen}
 use Rattle.bench_spec.specs.Telling.{allowance, room, told_of}
 use Rattle.bench_spec.specs.Spelling.{bytes, decimal, word_of, line_of, printed}
 use Rattle.bench_spec.proofs.Words as words
@@ -54,6 +57,22 @@ module _ (card log : List ℕ) (long : ℕ) where
       told (Bytes m) (Bytes n) (inr e) = let never : ◌≡◌ {A = ℕ} 0 1 = cc in absurd (omega arith)
       told (Bytes m) Nothing e = refl
       told Nothing actions e = refl
+
+-- A file that could not be opened is told as missing, and so is one of which reading failed, whatever was read before.
+pub an_unopened_file_is_missing :
+    (F E : Type 0) (error : E) (content : Content)
+    → OnlyIfOpen content (descriptor_of {F = F} {E = E} (Err error)) → content ≡ Nothing
+an_unopened_file_is_missing F E error (Bytes n) h = absurd h
+an_unopened_file_is_missing F E error Nothing h = refl
+
+pub a_failed_read_is_missing :
+    (E : Type 0) (error : E) (end long : ℕ)
+    → after_read end long (answer_of {E = E} (Err error)) ≡ Ended Nothing
+a_failed_read_is_missing E error end long = refl
+
+-- A read that did not fail answers with just so many bytes.
+pub bytes_are_counted : (E : Type 0) (most n : ℕ) → Moved most (answer_of {E = E} (Ok n)) ↔ (n ≤ most)
+bytes_are_counted E most n = (λ h. h, λ h. h)
 
 -- A file that is too long is read far enough to be refused: the bytes that it is read into are one more than a card or
 -- a log may have (`Reports`, specs/Telling.antt), and it fills them.

@@ -86,8 +86,8 @@ module _ (lifelines messages : ℕ) where
 
   pub chart_declared :
       (nodes : List ℕ)
-      → ((i : ℕ) → i < count_of nodes → in_order_as (kind_of (node_at nodes i).kind) lifelines messages i
-      (node_at nodes i)
+      → ((i : ℕ) → i < count_of nodes
+      → in_order_as (kind_of (node_at nodes i).kind) lifelines messages i (node_at nodes i)
       ≡ true)
       → Declared lifelines messages (chart (row_of nodes))
   chart_declared nodes order =

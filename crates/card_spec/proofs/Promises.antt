@@ -72,8 +72,8 @@ module _ (card : List ℕ) where
 
   -- "No. | Given when | Place", 1 to 6, and 0 for a sound card: exactly as 01's table tells.
   pub given_exactly_as_the_table_tells :
-      (number place : ℕ) → (((checking card).number ≡ number) × ((checking card).place ≡ place)) ↔ Told card number
-      place
+      (number place : ℕ) → (((checking card).number ≡ number) × ((checking card).place ≡ place))
+      ↔ Told card number place
   given_exactly_as_the_table_tells number place = (λ (en, ep). rw (en, ep) at (answer→told card), told→answer card)
 
   -- 0 exactly for sound cards.

@@ -104,8 +104,8 @@ faultless card rule few fine =
     let order : (i : ℕ) → i < count_of nodes
     → in_order_as (kind_of (node_at nodes i).kind) lines messages i (node_at nodes i) ≡ true
     = λ i h.
-    (both_true (eqb (spare_at nodes i) 0) (in_order_as (kind_of (node_at nodes i).kind) lines messages i
-    (node_at nodes i))
+    (both_true (eqb (spare_at nodes i) 0)
+    (in_order_as (kind_of (node_at nodes i).kind) lines messages i (node_at nodes i))
     (no_fault→ lines messages nodes i (fine→none (fault_of lines messages nodes) (count_of nodes) fine i h))).1 in
     record {
       some = omega (arith, length_nodes card rule, rule.some);

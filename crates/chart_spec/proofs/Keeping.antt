@@ -99,8 +99,8 @@ prune_keeps_leaves (alt l r) d =
     pruned_alt_keeps (λ p. size p ≡ 1) (prune l d) (prune r d) (evades l d) (evades r d) (prune_keeps_leaves l d)
     (prune_keeps_leaves r d)
 prune_keeps_leaves (pair o l r) d = (prune_keeps_leaves l d, prune_keeps_leaves r d)
-prune_keeps_leaves (loop k b) d = pruned_loop_keeps (λ p. size p ≡ 1) k (prune b d) (evades b d)
-    (prune_keeps_leaves b d)
+prune_keeps_leaves (loop k b) d =
+    pruned_loop_keeps (λ p. size p ≡ 1) k (prune b d) (evades b d) (prune_keeps_leaves b d)
 
 -- What pruning keeps are parts of the chart.
 pub prune_keeps_parts : (c : Chart) (d : ℕ) → EachKept (Part c) (prune c d)

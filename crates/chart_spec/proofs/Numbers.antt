@@ -172,8 +172,8 @@ module _ (c : Chart) (t : Log) (allowance room : ℕ) where
   same_case (ten j h e) (too_large g f) = absurd (wants_fits j h.wants g)
   same_case (ten j h e) (reached g f) = absurd (reaches_exceeds_none j g h)
   same_case (ten j h e) (nine g f) = absurd (spent_exceeds_none j g h)
-  same_case (ten j h e) (ten k g f) = e ∙ ap (λ (m : ℕ). halted 10 m (places_after c t m)) (exceeds_once j k h g) ∙
-      sym f
+  same_case (ten j h e) (ten k g f) =
+      e ∙ ap (λ (m : ℕ). halted 10 m (places_after c t m)) (exceeds_once j k h g) ∙ sym f
 
   -- ---- the answer in each case
 

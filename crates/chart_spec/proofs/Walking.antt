@@ -149,8 +149,8 @@ module _ (allowance room : ℕ) where
       next_alike n
       (λ s p. or_next (go (chart_of x) n s p) (attempts allowance room go used xs))
       (λ s p. or_next (spent (look (chart_of x) n) s p) (spent (tries look used xs)))
-      (λ s p. ap₂ or_next (h (chart_of x) n s p) (fun_ext (λ s. fun_ext (λ p. attempts_spent go look h used xs s p))))
-      s p
+      (λ s p. ap₂ or_next (h (chart_of x) n s p)
+      (fun_ext (λ s. fun_ext (λ p. attempts_spent go look h used xs s p)))) s p
       ∙ or_next_spent (look (chart_of x) n) (tries look used xs) n s p
 
   -- ---- the search

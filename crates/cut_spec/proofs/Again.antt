@@ -64,8 +64,8 @@ module _ (card : List ℕ) (lifeline long : ℕ) (all : Cuttable card lifeline l
   pub cuttable_again : Cuttable cut_off lifeline long
   cuttable_again =
       let (t, log, avoids) = all.avoided in
-      let kept = (cut_keeps_exactly_the_logs_without_the_device (card_chart card) lifeline evades_it t).1
-      (log, avoids) in
+      let kept =
+      (cut_keeps_exactly_the_logs_without_the_device (card_chart card) lifeline evades_it t).1 (log, avoids) in
       record {
         sound = cut_is_sound;
         declared = λ h. all.declared (same_number h);

@@ -107,8 +107,8 @@ module _ (card : List ℕ) (lifeline : ℕ) (out : List ℕ) where
   pub refused_output : given.number ≢ 0 → (given.length ≡ 0) × (out_after card lifeline out ≡ out)
   unfolding cutting out_after
   refused_output h =
-      refused_leaves (refusal card lifeline (length out)) (length (cut_card card lifeline)) (cut_card card lifeline)
-      out h
+      refused_leaves (refusal card lifeline (length out)) (length (cut_card card lifeline))
+      (cut_card card lifeline) out h
 
   pub zero_iff : (given.number ≡ 0) ↔ Cuttable card lifeline (length out)
   zero_iff = (

@@ -35,8 +35,8 @@ listed C xs low part k from to =
     let (x, e) = member C xs j (omega arith) in (
       x,
       ap (λ n. get_or all_kinds n unknown) same ∙ sym (get_or-drop low all_kinds j unknown)
-          ∙ sym (get_or-take (length xs) (drop low all_kinds) j unknown (omega arith)) ∙ ap (λ l. get_or l j unknown)
-          part
+          ∙ sym (get_or-take (length xs) (drop low all_kinds) j unknown (omega arith))
+          ∙ ap (λ l. get_or l j unknown) part
           ∙ e,
     )
 

@@ -54,8 +54,8 @@ charts_after_keeps before (n ∷ row) j h =
 
 -- More nodes change no chart of those before them.
 pub charts_keep :
-    (row more : List Node) (j : ℕ) → j < length row → get_or (charts (row ++ more)) j empty ≡ get_or (charts row) j
-    empty
+    (row more : List Node) (j : ℕ) → j < length row
+    → get_or (charts (row ++ more)) j empty ≡ get_or (charts row) j empty
 unfolding charts
 charts_keep row more j h =
     rw (charts_after_append [] row more)
@@ -91,8 +91,8 @@ charts_at row p d h low =
     = λ j l. ap (λ r. get_or (charts r) j empty) split ∙ charts_keep before (n ∷ after) j (omega arith) in
     let more = charts_keep (before ++ (n ∷ [])) after p (omega (arith, length-append before (n ∷ []))) in
     let last = get_or_at (charts before) (stands (charts before) n) [] empty p (length_charts before ∙ long) in
-    ap (λ r. get_or (charts r) p empty) (split ∙ sym snoc) ∙ more ∙ ap (λ r. get_or r p empty) (charts_more before n)
-    ∙ last
+    ap (λ r. get_or (charts r) p empty) (split ∙ sym snoc) ∙ more
+    ∙ ap (λ r. get_or r p empty) (charts_more before n) ∙ last
     ∙ sym (stands_alike (charts before) (charts row) n p low keep)
 
 depth_as : (k : Kind) (before : List Chart) (n : Node)

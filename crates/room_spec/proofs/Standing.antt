@@ -40,8 +40,8 @@ module _ (used : ℕ) (before after : List ℕ) (kept : Kept used before after) 
 
   pub kept_node : (p : ℕ) → p < used → node_in after p ≡ node_in before p
   kept_node p h =
-      ap node_of (sym (get_or-take used after p 0 h) ∙ ap (λ row. get_or row p 0) kept.same ∙ get_or-take used before
-      p 0
+      ap node_of (sym (get_or-take used after p 0 h) ∙ ap (λ row. get_or row p 0) kept.same
+      ∙ get_or-take used before p 0
       h)
 
   -- What is kept stays a table.

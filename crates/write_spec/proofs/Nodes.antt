@@ -67,8 +67,7 @@ length_written first (loop k b) =
     omega (
       arith,
       length-append (written first b) (node_as (loops k) (root_from first b) 0 ∷ []),
-      length_written first
-          b,
+      length_written first b,
     )
 
 -- ---- read back

@@ -178,8 +178,8 @@ module _ (lifelines messages : ℕ) (c : Chart) where
 
     in_order_lem :
         (i : ℕ) → i < count_of (nodes_of card)
-        → in_order (lifelines_of card) (messages_of card) i (node_at (nodes_of card) i) (spare_at (nodes_of card) i) ≡
-        true
+        → in_order (lifelines_of card) (messages_of card) i (node_at (nodes_of card) i) (spare_at (nodes_of card) i)
+        ≡ true
     in_order_lem i h =
         let inside : i < length (written 0 c) = omega (arith, count, length_written 0 c) in
         let n = get_or (written 0 c) i blank in

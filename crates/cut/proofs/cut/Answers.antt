@@ -26,9 +26,8 @@ pub returns-then-lifelines-lifeline : goal.returns-then-lifelines-lifeline
 returns-then-lifelines-lifeline c =
     let s = c.args in
     let (answer, out) =
-    not_declared s.card.now s.lifeline s.out.now (card_sound (goal.at.returns-then-lifelines-lifeline
-    c).Else-number-ne-OK)
-    (omega (arith, c.lifelines.ensures)) in
+    not_declared s.card.now s.lifeline s.out.now
+    (card_sound (goal.at.returns-then-lifelines-lifeline c).Else-number-ne-OK) (omega (arith, c.lifelines.ensures)) in
     (c.refused-then-lifelines-lifeline.ensures ∙ answer, out)
 
 pub cut_in-requires : goal.cut_in-requires

@@ -35,29 +35,29 @@ at_place c = c.decreases
 
 pub evades-requires : goal.evades-requires
 evades-requires t c =
+    let read = (goal.at.evades-requires t c).After-read-node in
     let six = c.in-6.is in
-    let (lower, root) = left_lower (reading (goal.at.evades-requires t c).After-read-node) (omega arith)
-    (omega arith) in
-    (omega (arith, at_place (goal.at.evades-requires t c).After-read-node), root)
+    let (lower, root) = left_lower (reading read) (omega arith) (omega arith) in
+    (omega (arith, at_place read), root)
 
 pub evades-requires-else-evades : goal.evades-requires-else-evades
 evades-requires-else-evades t c =
+    let read = (goal.at.evades-requires-else-evades t c).After-read-node in
     let six = c.in-6.is in
-    let (lower, root) = right_lower (reading (goal.at.evades-requires-else-evades t c).After-read-node) (omega arith)
-    (omega arith) in
-    (omega (arith, at_place (goal.at.evades-requires-else-evades t c).After-read-node), root)
+    let (lower, root) = right_lower (reading read) (omega arith) (omega arith) in
+    (omega (arith, at_place read), root)
 
 pub evades-requires-in-3-to-5 : goal.evades-requires-in-3-to-5
 evades-requires-in-3-to-5 t c =
-    let (lower, root) = left_lower (reading (goal.at.evades-requires-in-3-to-5 t c).After-read-node) (omega arith)
-    (omega arith) in
-    (omega (arith, at_place (goal.at.evades-requires-in-3-to-5 t c).After-read-node), root)
+    let read = (goal.at.evades-requires-in-3-to-5 t c).After-read-node in
+    let (lower, root) = left_lower (reading read) (omega arith) (omega arith) in
+    (omega (arith, at_place read), root)
 
 pub evades-requires-then-evades-2 : goal.evades-requires-then-evades-2
 evades-requires-then-evades-2 t c =
-    let (lower, root) = right_lower (reading (goal.at.evades-requires-then-evades-2 t c).After-read-node)
-    (omega arith) (omega arith) in
-    (omega (arith, at_place (goal.at.evades-requires-then-evades-2 t c).After-read-node), root)
+    let read = (goal.at.evades-requires-then-evades-2 t c).After-read-node in
+    let (lower, root) = right_lower (reading read) (omega arith) (omega arith) in
+    (omega (arith, at_place read), root)
 
 pub returns-in-0 : goal.returns-in-0
 returns-in-0 t c =

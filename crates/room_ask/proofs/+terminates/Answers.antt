@@ -35,29 +35,29 @@ at_place c = c.decreases
 
 pub terminates-requires : goal.terminates-requires
 terminates-requires t c =
+    let read = (goal.at.terminates-requires t c).After-read-node in
     let six = c.in-6.is in
-    let (lower, root) = left_lower (reading (goal.at.terminates-requires t c).After-read-node) (omega arith)
-    (omega arith) in
-    (omega (arith, at_place (goal.at.terminates-requires t c).After-read-node), root)
+    let (lower, root) = left_lower (reading read) (omega arith) (omega arith) in
+    (omega (arith, at_place read), root)
 
 pub terminates-requires-else-terminates : goal.terminates-requires-else-terminates
 terminates-requires-else-terminates t c =
+    let read = (goal.at.terminates-requires-else-terminates t c).After-read-node in
     let six = c.in-6.is in
-    let (lower, root) = right_lower (reading (goal.at.terminates-requires-else-terminates t c).After-read-node)
-    (omega arith) (omega arith) in
-    (omega (arith, at_place (goal.at.terminates-requires-else-terminates t c).After-read-node), root)
+    let (lower, root) = right_lower (reading read) (omega arith) (omega arith) in
+    (omega (arith, at_place read), root)
 
 pub terminates-requires-in-3-to-5 : goal.terminates-requires-in-3-to-5
 terminates-requires-in-3-to-5 t c =
-    let (lower, root) = left_lower (reading (goal.at.terminates-requires-in-3-to-5 t c).After-read-node) (omega arith)
-    (omega arith) in
-    (omega (arith, at_place (goal.at.terminates-requires-in-3-to-5 t c).After-read-node), root)
+    let read = (goal.at.terminates-requires-in-3-to-5 t c).After-read-node in
+    let (lower, root) = left_lower (reading read) (omega arith) (omega arith) in
+    (omega (arith, at_place read), root)
 
 pub terminates-requires-then-terminates-2 : goal.terminates-requires-then-terminates-2
 terminates-requires-then-terminates-2 t c =
-    let (lower, root) = right_lower (reading (goal.at.terminates-requires-then-terminates-2 t c).After-read-node)
-    (omega arith) (omega arith) in
-    (omega (arith, at_place (goal.at.terminates-requires-then-terminates-2 t c).After-read-node), root)
+    let read = (goal.at.terminates-requires-then-terminates-2 t c).After-read-node in
+    let (lower, root) = right_lower (reading read) (omega arith) (omega arith) in
+    (omega (arith, at_place read), root)
 
 pub returns-in-0 : goal.returns-in-0
 returns-in-0 t c = yes_at_empty terminates_descends (reading (goal.at.returns-in-0 t c).After-read-node) c.in-0.is

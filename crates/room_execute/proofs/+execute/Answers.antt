@@ -50,99 +50,98 @@ at_place c = c.decreases
 
 pub execute-left-requires : goal.execute-left-requires
 execute-left-requires t c =
-    let after_read_node = (goal.at.execute-left-requires t c).After-read-node in
+    let read = (goal.at.execute-left-requires t c).After-read-node in
     let (low, high) = is_pair (goal.at.execute-left-requires t c).In-3-to-6 in
-    let (lower, asks) = asks_left (work after_read_node) (occurrence after_read_node) (action after_read_node) low
-    high in
-    (omega (arith, at_place after_read_node), asks)
+    let (lower, asks) = asks_left (work read) (occurrence read) (action read) low high in
+    (omega (arith, at_place read), asks)
 
 pub on_left-requires : goal.on_left-requires
 on_left-requires t c =
-    let after_read_node = (goal.at.on_left-requires t c).After-read-node in
+    let read = (goal.at.on_left-requires t c).After-read-node in
     let (low, high) = is_pair (goal.at.on_left-requires t c).In-3-to-6 in
     let made = rw c.in-FollowUp.is at c.execute-left.ensures in
-    asks_to_carry (work after_read_node) (occurrence after_read_node) (action after_read_node) low high
+    asks_to_carry (work read) (occurrence read) (action read) low high
     c.execute-left.new.room c.in-FollowUp.x made
 
 pub execute-right-requires : goal.execute-right-requires
 execute-right-requires t c =
-    let after_read_node = (goal.at.execute-right-requires t c).After-read-node in
+    let read = (goal.at.execute-right-requires t c).After-read-node in
     let (low, high) = is_pair (goal.at.execute-right-requires t c).In-3-to-6 in
     let none = rw c.in-Missing.is at c.execute-left.ensures in
-    let (lower, asks) = asks_right (work after_read_node) (occurrence after_read_node) (action after_read_node) low
-    high c.execute-left.new.room c.in-Missing.more none in
-    (omega (arith, at_place after_read_node), asks)
+    let (lower, asks) = asks_right (work read) (occurrence read) (action read) low high
+    c.execute-left.new.room c.in-Missing.more none in
+    (omega (arith, at_place read), asks)
 
 pub on_right-requires : goal.on_right-requires
 on_right-requires t c =
-    let after_read_node = (goal.at.on_right-requires t c).After-read-node in
+    let read = (goal.at.on_right-requires t c).After-read-node in
     let (low, high) = is_pair (goal.at.on_right-requires t c).In-3-to-6 in
     let none = rw c.in-Missing.is at c.execute-left.ensures in
-    asks_to_turn (work after_read_node) (occurrence after_read_node) (action after_read_node) low high
+    asks_to_turn (work read) (occurrence read) (action read) low high
     c.execute-left.new.room c.in-Missing.more none
     c.execute-right.new.room c.execute-right.result c.execute-right.ensures
 
 pub execute-round-requires : goal.execute-round-requires
 execute-round-requires t c =
-    let after_read_node = (goal.at.execute-round-requires t c).After-read-node in
+    let read = (goal.at.execute-round-requires t c).After-read-node in
     let (low, high) = is_loop (goal.at.execute-round-requires t c).In-7-to-10 in
-    let (lower, asks) = asks_body (work after_read_node) (occurrence after_read_node) (action after_read_node) low
-    high in
-    (omega (arith, at_place after_read_node), asks)
+    let (lower, asks) = asks_body (work read) (occurrence read) (action read) low high in
+    (omega (arith, at_place read), asks)
 
 pub returns-in_default-round : goal.returns-in_default-round
 returns-in_default-round t c =
-    let after_read_node = (goal.at.returns-in_default-round t c).After-read-node in
+    let read = (goal.at.returns-in_default-round t c).After-read-node in
     let (low, high) = is_loop (goal.at.returns-in_default-round t c).In-7-to-10 in
     let none = rw c.in_default-round.is at c.execute-round.ensures in
-    rw c.in_default-round.is (no_round (work after_read_node) (occurrence after_read_node) (action after_read_node)
-    low high c.execute-round.new.room c.in_default-round.field-0 none)
+    rw c.in_default-round.is
+    (no_round (work read) (occurrence read) (action read) low high c.execute-round.new.room
+    c.in_default-round.field-0 none)
 
 pub returns-in-0 : goal.returns-in-0
 returns-in-0 t c =
-    let after_read_node = (goal.at.returns-in-0 t c).After-read-node in
-    at_an_empty (work after_read_node) (occurrence after_read_node) (action after_read_node) c.in-0.is
+    let read = (goal.at.returns-in-0 t c).After-read-node in
+    at_an_empty (work read) (occurrence read) (action read) c.in-0.is
 
 pub returns-in-1-to-2 : goal.returns-in-1-to-2
 returns-in-1-to-2 t c =
-    let after_read_node = (goal.at.returns-in-1-to-2 t c).After-read-node in
+    let read = (goal.at.returns-in-1-to-2 t c).After-read-node in
     let done = c.on_action in
-    at_an_action (work after_read_node) (occurrence after_read_node) (action after_read_node) done.new.room
+    at_an_action (work read) (occurrence read) (action read) done.new.room
     done.result (omega arith) (omega arith)
     done.ensures
 
 pub returns-in-FollowUp : goal.returns-in-FollowUp
 returns-in-FollowUp t c =
-    let after_read_node = (goal.at.returns-in-FollowUp t c).After-read-node in
+    let read = (goal.at.returns-in-FollowUp t c).After-read-node in
     let (low, high) = is_pair (goal.at.returns-in-FollowUp t c).In-3-to-6 in
     let made = rw c.in-FollowUp.is at c.execute-left.ensures in
     let done = c.on_left in
-    on_its_left (work after_read_node) (occurrence after_read_node) (action after_read_node) low high
+    on_its_left (work read) (occurrence read) (action read) low high
     c.execute-left.new.room c.in-FollowUp.x made
     done.new.room done.result done.ensures
 
 pub returns-in-Missing : goal.returns-in-Missing
 returns-in-Missing t c =
-    let after_read_node = (goal.at.returns-in-Missing t c).After-read-node in
+    let read = (goal.at.returns-in-Missing t c).After-read-node in
     let (low, high) = is_pair (goal.at.returns-in-Missing t c).In-3-to-6 in
     let none = rw c.in-Missing.is at c.execute-left.ensures in
     let done = c.on_right in
-    on_its_right (work after_read_node) (occurrence after_read_node) (action after_read_node) low high
+    on_its_right (work read) (occurrence read) (action read) low high
     c.execute-left.new.room c.in-Missing.more none
     c.execute-right.new.room c.execute-right.result c.execute-right.ensures
     done.new.room done.result done.ensures
 
 pub returns-in-FollowUp-round : goal.returns-in-FollowUp-round
 returns-in-FollowUp-round t c =
-    let after_read_node = (goal.at.returns-in-FollowUp-round t c).After-read-node in
+    let read = (goal.at.returns-in-FollowUp-round t c).After-read-node in
     let (low, high) = is_loop (goal.at.returns-in-FollowUp-round t c).In-7-to-10 in
     let made = rw c.in-FollowUp-round.is at c.execute-round.ensures in
     let done = c.after_round in
-    one_round (work after_read_node) (occurrence after_read_node) (action after_read_node) low high
+    one_round (work read) (occurrence read) (action read) low high
     c.execute-round.new.room c.in-FollowUp-round.x made
     done.new.room done.result done.ensures
 
 pub returns-in_default : goal.returns-in_default
 returns-in_default t c =
-    let after_read_node = (goal.at.returns-in_default t c).After-read-node in
-    at_the_unknown (work after_read_node) (occurrence after_read_node) (action after_read_node) (omega arith)
+    let read = (goal.at.returns-in_default t c).After-read-node in
+    at_the_unknown (work read) (occurrence read) (action read) (omega arith)

@@ -45,99 +45,99 @@ at_place c = c.decreases
 
 pub returns-then-node-lifeline : goal.returns-then-node-lifeline
 returns-then-node-lifeline t c =
-    let after_read_node = (goal.at.returns-then-node-lifeline t c).After-read-node in
-    at_an_action_on_it (work after_read_node) (lifeline after_read_node) (omega arith) (omega arith)
+    let read = (goal.at.returns-then-node-lifeline t c).After-read-node in
+    at_an_action_on_it (work read) (lifeline read) (omega arith) (omega arith)
     c.if-node-lifeline.true
 
 pub prune-left-requires : goal.prune-left-requires
 prune-left-requires t c =
-    let after_read_node = (goal.at.prune-left-requires t c).After-read-node in
+    let read = (goal.at.prune-left-requires t c).After-read-node in
     let (low, high) = is_pair (goal.at.prune-left-requires t c).In-3-to-6 in
-    let (lower, root) = left_lower (work after_read_node).reading low high in
-    (omega (arith, at_place after_read_node), asks_left (work after_read_node) (lifeline after_read_node) low high)
+    let (lower, root) = left_lower (work read).reading low high in
+    (omega (arith, at_place read), asks_left (work read) (lifeline read) low high)
 
 pub prune-requires : goal.prune-requires
 prune-requires t c =
-    let after_read_node = (goal.at.prune-requires t c).After-read-node in
+    let read = (goal.at.prune-requires t c).After-read-node in
     let (low, high) = is_pair (goal.at.prune-requires t c).In-3-to-6 in
     let lost = rw c.in_default-left.is at c.prune-left.ensures in
-    let (lower, root) = right_lower (work after_read_node).reading low high in (
-      omega (arith, at_place after_read_node),
-      asks_right_alone (work after_read_node) (lifeline after_read_node) low
+    let (lower, root) = right_lower (work read).reading low high in (
+      omega (arith, at_place read),
+      asks_right_alone (work read) (lifeline read) low
           high c.prune-left.new.room lost,
     )
 
 pub returns-then-kind-eq-ALT : goal.returns-then-kind-eq-ALT
 returns-then-kind-eq-ALT t c =
-    let after_read_node = (goal.at.returns-then-kind-eq-ALT t c).After-read-node in
+    let read = (goal.at.returns-then-kind-eq-ALT t c).After-read-node in
     let (low, high) = is_pair (goal.at.returns-then-kind-eq-ALT t c).In-3-to-6 in
     let lost = rw c.in_default-left.is at c.prune-left.ensures in
-    at_an_alt_by_its_right (work after_read_node) (lifeline after_read_node) low high c.prune-left.new.room lost
+    at_an_alt_by_its_right (work read) (lifeline read) low high c.prune-left.new.room lost
     c.prune.new.room c.prune.result c.if-kind-eq-ALT.true c.prune.ensures
 
 pub returns-in_default-left : goal.returns-in_default-left
 returns-in_default-left t c =
-    let after_read_node = (goal.at.returns-in_default-left t c).After-read-node in
+    let read = (goal.at.returns-in_default-left t c).After-read-node in
     let (low, high) = is_pair (goal.at.returns-in_default-left t c).In-3-to-6 in
     let lost = rw c.in_default-left.is at c.prune-left.ensures in
-    at_a_lost_order (work after_read_node) (lifeline after_read_node) low high c.prune-left.new.room lost
+    at_a_lost_order (work read) (lifeline read) low high c.prune-left.new.room lost
     c.if-kind-eq-ALT.false
 
 pub prune-right-requires : goal.prune-right-requires
 prune-right-requires t c =
-    let after_read_node = (goal.at.prune-right-requires t c).After-read-node in
+    let read = (goal.at.prune-right-requires t c).After-read-node in
     let (low, high) = is_pair (goal.at.prune-right-requires t c).In-3-to-6 in
     let left = rw c.in-Part.is at c.prune-left.ensures in
-    let (lower, root) = right_lower (work after_read_node).reading low high in (
-      omega (arith, at_place after_read_node),
-      asks_right (work after_read_node) (lifeline after_read_node) low high
+    let (lower, root) = right_lower (work read).reading low high in (
+      omega (arith, at_place read),
+      asks_right (work read) (lifeline read) low high
           c.prune-left.new.room c.in-Part.part left,
     )
 
 pub prune-body-requires : goal.prune-body-requires
 prune-body-requires t c =
-    let after_read_node = (goal.at.prune-body-requires t c).After-read-node in
+    let read = (goal.at.prune-body-requires t c).After-read-node in
     let (low, high) = is_loop (goal.at.prune-body-requires t c).In-7-to-10 in
-    let (lower, root) = body_lower (work after_read_node).reading low high in
-    (omega (arith, at_place after_read_node), asks_body (work after_read_node) (lifeline after_read_node) low high)
+    let (lower, root) = body_lower (work read).reading low high in
+    (omega (arith, at_place read), asks_body (work read) (lifeline read) low high)
 
 pub loop_of-requires : goal.loop_of-requires
 loop_of-requires t c =
-    let after_read_node = (goal.at.loop_of-requires t c).After-read-node in
-    above_body (work after_read_node) (lifeline after_read_node) c.prune-body.new.room c.prune-body.result
+    let read = (goal.at.loop_of-requires t c).After-read-node in
+    above_body (work read) (lifeline read) c.prune-body.new.room c.prune-body.result
     c.prune-body.ensures
 
 pub returns-in-0 : goal.returns-in-0
 returns-in-0 t c =
-    let after_read_node = (goal.at.returns-in-0 t c).After-read-node in
-    at_an_empty (work after_read_node) (lifeline after_read_node) c.in-0.is
+    let read = (goal.at.returns-in-0 t c).After-read-node in
+    at_an_empty (work read) (lifeline read) c.in-0.is
 
 pub returns-else-node-lifeline : goal.returns-else-node-lifeline
 returns-else-node-lifeline t c =
-    let after_read_node = (goal.at.returns-else-node-lifeline t c).After-read-node in
-    at_another_action (work after_read_node) (lifeline after_read_node) (omega arith) (omega arith)
+    let read = (goal.at.returns-else-node-lifeline t c).After-read-node in
+    at_another_action (work read) (lifeline read) (omega arith) (omega arith)
     c.if-node-lifeline.false
 
 pub returns-in-Part : goal.returns-in-Part
 returns-in-Part t c =
-    let after_read_node = (goal.at.returns-in-Part t c).After-read-node in
+    let read = (goal.at.returns-in-Part t c).After-read-node in
     let (low, high) = is_pair (goal.at.returns-in-Part t c).In-3-to-6 in
     let left = rw c.in-Part.is at c.prune-left.ensures in
     let done = c.pair_of.ensures in
     rw (done.0, done.1)
-    (at_a_pair (work after_read_node) (lifeline after_read_node) low high c.prune-left.new.room c.in-Part.part left
+    (at_a_pair (work read) (lifeline read) low high c.prune-left.new.room c.in-Part.part left
     c.prune-right.new.room c.prune-right.result c.prune-right.ensures)
 
 pub returns-in-7-to-10 : goal.returns-in-7-to-10
 returns-in-7-to-10 t c =
-    let after_read_node = (goal.at.returns-in-7-to-10 t c).After-read-node in
+    let read = (goal.at.returns-in-7-to-10 t c).After-read-node in
     let (low, high) = is_loop (goal.at.returns-in-7-to-10 t c).In-7-to-10 in
     let done = c.loop_of.ensures in
     rw (done.0, done.1)
-    (at_a_loop (work after_read_node) (lifeline after_read_node) c.prune-body.new.room c.prune-body.result low high
+    (at_a_loop (work read) (lifeline read) c.prune-body.new.room c.prune-body.result low high
     c.prune-body.ensures)
 
 pub returns-in_default : goal.returns-in_default
 returns-in_default t c =
-    let after_read_node = (goal.at.returns-in_default t c).After-read-node in
-    at_the_unknown (work after_read_node) (lifeline after_read_node) (omega arith)
+    let read = (goal.at.returns-in_default t c).After-read-node in
+    at_the_unknown (work read) (lifeline read) (omega arith)

@@ -30,15 +30,15 @@ few c = c.requires.1
 
 pub count-requires : goal.count-requires
 count-requires t c =
-    let after_read_node = (goal.at.count-requires t c).After-read-node in
-    let (lower, root) = left_lower (reading after_read_node) (omega arith) (omega arith) in (
-      omega (arith, at_place after_read_node),
+    let read = (goal.at.count-requires t c).After-read-node in
+    let (lower, root) = left_lower (reading read) (omega arith) (omega arith) in (
+      omega (arith, at_place read),
       (
         root,
         omega (
           arith,
-          few after_read_node,
-          a_pair_is_one_more (reading after_read_node) (omega arith)
+          few read,
+          a_pair_is_one_more (reading read) (omega arith)
               (omega arith),
         ),
       ),
@@ -46,15 +46,15 @@ count-requires t c =
 
 pub count-requires-in-3-to-6 : goal.count-requires-in-3-to-6
 count-requires-in-3-to-6 t c =
-    let after_read_node = (goal.at.count-requires-in-3-to-6 t c).After-read-node in
-    let (lower, root) = right_lower (reading after_read_node) (omega arith) (omega arith) in (
-      omega (arith, at_place after_read_node),
+    let read = (goal.at.count-requires-in-3-to-6 t c).After-read-node in
+    let (lower, root) = right_lower (reading read) (omega arith) (omega arith) in (
+      omega (arith, at_place read),
       (
         root,
         omega (
           arith,
-          few after_read_node,
-          a_pair_is_one_more (reading after_read_node)
+          few read,
+          a_pair_is_one_more (reading read)
               (omega arith) (omega arith),
         ),
       ),
@@ -62,39 +62,39 @@ count-requires-in-3-to-6 t c =
 
 pub overflow_add-result : goal.overflow_add-result
 overflow_add-result t c =
-    let after_read_node = (goal.at.overflow_add-result t c).After-read-node in
+    let read = (goal.at.overflow_add-result t c).After-read-node in
     omega (
       arith,
       c.count.ensures,
       c.count-in-3-to-6.ensures,
-      few after_read_node,
+      few read,
       a_pair_is_one_more
-          (reading after_read_node) (omega arith) (omega arith),
+          (reading read) (omega arith) (omega arith),
     )
 
 pub overflow_add-result-in-3-to-6 : goal.overflow_add-result-in-3-to-6
 overflow_add-result-in-3-to-6 t c =
-    let after_read_node = (goal.at.overflow_add-result-in-3-to-6 t c).After-read-node in
+    let read = (goal.at.overflow_add-result-in-3-to-6 t c).After-read-node in
     omega (
       arith,
       c.count.ensures,
       c.count-in-3-to-6.ensures,
-      few after_read_node,
+      few read,
       a_pair_is_one_more
-          (reading after_read_node) (omega arith) (omega arith),
+          (reading read) (omega arith) (omega arith),
     )
 
 pub count-requires-in-7-to-10 : goal.count-requires-in-7-to-10
 count-requires-in-7-to-10 t c =
-    let after_read_node = (goal.at.count-requires-in-7-to-10 t c).After-read-node in
-    let (lower, root) = body_lower (reading after_read_node) (omega arith) (omega arith) in (
-      omega (arith, at_place after_read_node),
+    let read = (goal.at.count-requires-in-7-to-10 t c).After-read-node in
+    let (lower, root) = body_lower (reading read) (omega arith) (omega arith) in (
+      omega (arith, at_place read),
       (
         root,
         omega (
           arith,
-          few after_read_node,
-          a_loop_is_one_more (reading after_read_node)
+          few read,
+          a_loop_is_one_more (reading read)
               (omega arith) (omega arith),
         ),
       ),
@@ -102,12 +102,12 @@ count-requires-in-7-to-10 t c =
 
 pub overflow_add-result-in-7-to-10 : goal.overflow_add-result-in-7-to-10
 overflow_add-result-in-7-to-10 t c =
-    let after_read_node = (goal.at.overflow_add-result-in-7-to-10 t c).After-read-node in
+    let read = (goal.at.overflow_add-result-in-7-to-10 t c).After-read-node in
     omega (
       arith,
       c.count-in-7-to-10.ensures,
-      few after_read_node,
-      a_loop_is_one_more (reading after_read_node) (omega arith)
+      few read,
+      a_loop_is_one_more (reading read) (omega arith)
           (omega arith),
     )
 

@@ -74,31 +74,31 @@ is_loop c = (omega arith, omega arith)
 
 pub put-requires : goal.put-requires
 put-requires t c =
-    let after_read_node = (goal.at.put-requires t c).After-read-node in
+    let read = (goal.at.put-requires t c).After-read-node in
     let s = c.args in
-    asks_action (reading after_read_node) s.first s.out.now (writable after_read_node) (omega arith) (omega arith)
+    asks_action (reading read) s.first s.out.now (writable read) (omega arith) (omega arith)
 
 pub write-right-requires : goal.write-right-requires
 write-right-requires t c =
-    let after_read_node = (goal.at.write-right-requires t c).After-read-node in
+    let read = (goal.at.write-right-requires t c).After-read-node in
     let s = c.args in
     let (low, high) = is_pair (goal.at.write-right-requires t c).In-3-to-6 in
-    let (lower, root) = left_lower (reading after_read_node) low high in (
-      omega (arith, at_place after_read_node),
-      (root, asks_left (reading after_read_node) s.first s.out.now (writable after_read_node) low high),
+    let (lower, root) = left_lower (reading read) low high in (
+      omega (arith, at_place read),
+      (root, asks_left (reading read) s.first s.out.now (writable read) low high),
     )
 
 pub write-parent-requires : goal.write-parent-requires
 write-parent-requires t c =
-    let after_read_node = (goal.at.write-parent-requires t c).After-read-node in
+    let read = (goal.at.write-parent-requires t c).After-read-node in
     let s = c.args in
     let (low, high) = is_pair (goal.at.write-parent-requires t c).In-3-to-6 in
     let l = c.write-right in
-    let (lower, root) = right_lower (reading after_read_node) low high in (
-      omega (arith, at_place after_read_node),
+    let (lower, root) = right_lower (reading read) low high in (
+      omega (arith, at_place read),
       (
         root,
-        asks_right (reading after_read_node) s.first s.out.now (writable after_read_node) low high l.result
+        asks_right (reading read) s.first s.out.now (writable read) low high l.result
             l.new.out l.ensures,
       ),
     )
@@ -115,22 +115,22 @@ overflow_sub-parent t c =
 
 pub put-requires-in-3-to-6 : goal.put-requires-in-3-to-6
 put-requires-in-3-to-6 t c =
-    let after_read_node = (goal.at.put-requires-in-3-to-6 t c).After-read-node in
+    let read = (goal.at.put-requires-in-3-to-6 t c).After-read-node in
     let s = c.args in
     let (low, high) = is_pair (goal.at.put-requires-in-3-to-6 t c).In-3-to-6 in
     let l = c.write-right in
     let m = c.write-parent in
-    asks_parent (reading after_read_node) s.first s.out.now (writable after_read_node) low high l.result
+    asks_parent (reading read) s.first s.out.now (writable read) low high l.result
     l.new.out l.ensures m.result m.new.out m.ensures
 
 pub write-parent-requires-in-7-to-10 : goal.write-parent-requires-in-7-to-10
 write-parent-requires-in-7-to-10 t c =
-    let after_read_node = (goal.at.write-parent-requires-in-7-to-10 t c).After-read-node in
+    let read = (goal.at.write-parent-requires-in-7-to-10 t c).After-read-node in
     let s = c.args in
     let (low, high) = is_loop (goal.at.write-parent-requires-in-7-to-10 t c).In-7-to-10 in
-    let (lower, root) = body_lower (reading after_read_node) low high in (
-      omega (arith, at_place after_read_node),
-      (root, asks_body (reading after_read_node) s.first s.out.now (writable after_read_node) low high),
+    let (lower, root) = body_lower (reading read) low high in (
+      omega (arith, at_place read),
+      (root, asks_body (reading read) s.first s.out.now (writable read) low high),
     )
 
 pub overflow_sub-parent-in-7-to-10 : goal.overflow_sub-parent-in-7-to-10
@@ -140,57 +140,57 @@ overflow_sub-parent-in-7-to-10 t c =
 
 pub put-requires-in-7-to-10 : goal.put-requires-in-7-to-10
 put-requires-in-7-to-10 t c =
-    let after_read_node = (goal.at.put-requires-in-7-to-10 t c).After-read-node in
+    let read = (goal.at.put-requires-in-7-to-10 t c).After-read-node in
     let s = c.args in
     let (low, high) = is_loop (goal.at.put-requires-in-7-to-10 t c).In-7-to-10 in
     let b = c.write-parent-in-7-to-10 in
-    asks_loop (reading after_read_node) s.first s.out.now (writable after_read_node) low high b.result
+    asks_loop (reading read) s.first s.out.now (writable read) low high b.result
     b.new.out b.ensures
 
 pub put-requires-in_default : goal.put-requires-in_default
 put-requires-in_default t c =
-    let after_read_node = (goal.at.put-requires-in_default t c).After-read-node in
+    let read = (goal.at.put-requires-in_default t c).After-read-node in
     let s = c.args in
-    asks_empty (reading after_read_node) s.first s.out.now (writable after_read_node)
-    (nothing_here (reading after_read_node) (neither (goal.at.put-requires-in_default t c).In_default))
+    asks_empty (reading read) s.first s.out.now (writable read)
+    (nothing_here (reading read) (neither (goal.at.put-requires-in_default t c).In_default))
 
 pub returns-in-1-to-2 : goal.returns-in-1-to-2
 returns-in-1-to-2 t c =
-    let after_read_node = (goal.at.returns-in-1-to-2 t c).After-read-node in
+    let read = (goal.at.returns-in-1-to-2 t c).After-read-node in
     let s = c.args in
     let p = c.put in
-    action_written (reading after_read_node) s.first s.out.now (writable after_read_node) p.result p.new.out
+    action_written (reading read) s.first s.out.now (writable read) p.result p.new.out
     (omega arith)
     (omega arith) p.ensures
 
 pub returns-in-3-to-6 : goal.returns-in-3-to-6
 returns-in-3-to-6 t c =
-    let after_read_node = (goal.at.returns-in-3-to-6 t c).After-read-node in
+    let read = (goal.at.returns-in-3-to-6 t c).After-read-node in
     let s = c.args in
     let (low, high) = is_pair (goal.at.returns-in-3-to-6 t c).In-3-to-6 in
     let l = c.write-right in
     let m = c.write-parent in
     let p = c.put-in-3-to-6 in
-    pair_written (reading after_read_node) s.first s.out.now (writable after_read_node) low high l.result
+    pair_written (reading read) s.first s.out.now (writable read) low high l.result
     l.new.out l.ensures m.result m.new.out m.ensures p.result p.new.out
     p.ensures
 
 pub returns-in-7-to-10 : goal.returns-in-7-to-10
 returns-in-7-to-10 t c =
-    let after_read_node = (goal.at.returns-in-7-to-10 t c).After-read-node in
+    let read = (goal.at.returns-in-7-to-10 t c).After-read-node in
     let s = c.args in
     let (low, high) = is_loop (goal.at.returns-in-7-to-10 t c).In-7-to-10 in
     let b = c.write-parent-in-7-to-10 in
     let p = c.put-in-7-to-10 in
-    loop_written (reading after_read_node) s.first s.out.now (writable after_read_node) low high b.result
+    loop_written (reading read) s.first s.out.now (writable read) low high b.result
     b.new.out b.ensures p.result p.new.out p.ensures
 
 pub returns-in_default : goal.returns-in_default
 returns-in_default t c =
-    let after_read_node = (goal.at.returns-in_default t c).After-read-node in
+    let read = (goal.at.returns-in_default t c).After-read-node in
     let s = c.args in
     let p = c.put-in_default in
-    empty_written (reading after_read_node) s.first s.out.now (writable after_read_node)
-    (nothing_here (reading after_read_node) (neither (goal.at.returns-in_default t c).In_default))
+    empty_written (reading read) s.first s.out.now (writable read)
+    (nothing_here (reading read) (neither (goal.at.returns-in_default t c).In_default))
     p.result p.new.out
     p.ensures
