@@ -1,2 +1,2 @@
--- Laws of adding bytes to a text.
-pub mod Adding
+-- How long the pieces of a line are.
+pub mod Pieces

@@ -1,8 +1,8 @@
 -- What is promised of the program, for whoever reads nothing else: each sentence of 01 on it, as a theorem that only
 -- cites others. The program tells `told_of` of the contents that it read from `chart` and `log`
 -- (bench_files/src/lib.rt), and writes `printed` of the line for it (bench_line/src/lib.rt). What holds here of these
--- definitions therefore holds of the code. Nothing here says that the contents are the files' own: no contract can
--- speak of what is in a file.
+-- definitions therefore holds of the code. That the contents are the files' own is promised for each reader of which
+-- std says what it has to give; of the files of a directory std says nothing.
 -- Assumes nothing.
 use Prim.Native.Nat.{ℕ, ◌<◌, ◌≤◌}
 use mathlib.Core.List.{List, [], ◌∷◌, ◌++◌}
@@ -10,20 +10,18 @@ use mathlib.Core.Logic.{◌↔◌, ◌⊎◌, ◌≢◌, inl, inr}
 use mathlib.Core.Path.{◌≡◌, refl, sym, ap, ◌∙◌}
 use native.Mathlib.Omega.{arith}
 use lib.ListN.{length, take, length-take}
-use Rattle.std.specs.Prelude.{Ok, Err}
+use lib.Seq.{take_all}
+use Rattle.std.specs.Prelude.{Option, Some, None, Ok, Err}
+use Rattle.std.specs.declared.ops.ControlFlow.TheVariants.{Break}
 use Rattle.card_spec.specs.Table.{Sound}
 use Rattle.card_spec.specs.Table.Told.{one}
 use Rattle.card_spec.proofs.Example as card
+use Rattle.judge_spec.specs.declared.Judged.{Judged}
 use Rattle.judge_spec.specs.Judgment.{judgment}
 use Rattle.judge_spec.specs.Table.Refused.{by_the_card, seven}
 use Rattle.judge_spec.proofs.Example.{printed_log, the_printed_log_is_accepted}
 use Rattle.judge_spec.proofs.Promises.{refused_exactly_as_the_table_tells}
-use Rattle.bench_spec.specs.declared.Content.{Content}
-use Rattle.bench_spec.specs.declared.Content.TheVariants.{Bytes, Nothing}
-use Rattle.bench_spec.specs.declared.Told.{Told}
-use Rattle.bench_spec.specs.declared.Told.TheVariants.{Answer, NoFile}
-use Rattle.bench_spec.specs.declared.Turn.TheVariants.{Ended}
-use Rattle.bench_spec.specs.Reading.{Moved, answer_of, descriptor_of, after_read, OnlyIfOpen}
+use Rattle.bench_spec.specs.Reading.{Moved, after_read, OnlyIfOpen, AllRead}
 use Rattle.bench_spec.specs.Telling.{allowance, room, told_of}
 use Rattle.bench_spec.specs.Spelling.{bytes, decimal, word_of, line_of, printed}
 use Rattle.bench_spec.proofs.Words as words
@@ -33,45 +31,50 @@ use Rattle.bench_spec.proofs.Words as words
 module _ (card log : List ℕ) (long : ℕ) where
   -- No second telling meets the contract.
   pub no_second_telling :
-      (chart actions : Content) {r s : Told} → r ≡ told_of chart card actions log long
+      (chart actions : Option ℕ) {r s : Option Judged} → r ≡ told_of chart card actions log long
       → s ≡ told_of chart card actions log long → r ≡ s
   no_second_telling chart actions e f = e ∙ sym f
 
   -- "If either file is missing": the program tells so exactly then.
   pub no_file_exactly_if_one_is_missing :
-      (chart actions : Content)
-      → (told_of chart card actions log long ≡ NoFile) ↔ ((chart ≡ Nothing) ⊎ (actions ≡ Nothing))
+      (chart actions : Option ℕ)
+      → (told_of chart card actions log long ≡ None) ↔ ((chart ≡ None) ⊎ (actions ≡ None))
   no_file_exactly_if_one_is_missing chart actions = (missing chart actions, told chart actions)
     where
       missing :
-          (chart actions : Content) → told_of chart card actions log long ≡ NoFile
-          → (chart ≡ Nothing) ⊎ (actions ≡ Nothing)
-      missing (Bytes m) (Bytes n) e = let never : ◌≡◌ {A = ℕ} 0 1 = cc in absurd (omega arith)
-      missing (Bytes m) Nothing e = inr refl
-      missing Nothing actions e = inl refl
+          (chart actions : Option ℕ) → told_of chart card actions log long ≡ None
+          → (chart ≡ None) ⊎ (actions ≡ None)
+      missing (Some m) (Some n) e = cc
+      missing (Some m) None e = inr refl
+      missing None actions e = inl refl
 
       told :
-          (chart actions : Content) → (chart ≡ Nothing) ⊎ (actions ≡ Nothing)
-          → told_of chart card actions log long ≡ NoFile
-      told (Bytes m) (Bytes n) (inl e) = let never : ◌≡◌ {A = ℕ} 0 1 = cc in absurd (omega arith)
-      told (Bytes m) (Bytes n) (inr e) = let never : ◌≡◌ {A = ℕ} 0 1 = cc in absurd (omega arith)
-      told (Bytes m) Nothing e = refl
-      told Nothing actions e = refl
+          (chart actions : Option ℕ) → (chart ≡ None) ⊎ (actions ≡ None)
+          → told_of chart card actions log long ≡ None
+      told (Some m) (Some n) (inl e) = cc
+      told (Some m) (Some n) (inr e) = cc
+      told (Some m) None e = refl
+      told None actions e = refl
 
 -- A file that could not be opened is told as missing, and so is one of which reading failed, whatever was read before.
 pub an_unopened_file_is_missing :
-    (F E : Type 0) (error : E) (content : Content)
-    → OnlyIfOpen content (descriptor_of {F = F} {E = E} (Err error)) → content ≡ Nothing
-an_unopened_file_is_missing F E error (Bytes n) h = absurd h
-an_unopened_file_is_missing F E error Nothing h = refl
+    (F E : Type 0) (error : E) (content : Option ℕ)
+    → OnlyIfOpen {F = F} {E = E} content (Err error) → content ≡ None
+an_unopened_file_is_missing F E error (Some n) h = absurd h
+an_unopened_file_is_missing F E error None h = refl
 
 pub a_failed_read_is_missing :
-    (E : Type 0) (error : E) (end long : ℕ)
-    → after_read end long (answer_of {E = E} (Err error)) ≡ Ended Nothing
+    (E : Type 0) (error : E) (end long : ℕ) → after_read {E = E} end long (Err error) ≡ Break None
 a_failed_read_is_missing E error end long = refl
 
+-- A file that fits into the lent bytes is read whole.
+pub a_file_that_fits_is_read_whole :
+    (left bytes : List ℕ) (n : ℕ) → AllRead (Some left) (Some n) bytes → length left ≤ length bytes
+    → take n bytes ≡ left
+a_file_that_fits_is_read_whole left bytes n all fits = all ∙ take_all (length bytes) left fits
+
 -- A read that did not fail answers with just so many bytes.
-pub bytes_are_counted : (E : Type 0) (most n : ℕ) → Moved most (answer_of {E = E} (Ok n)) ↔ (n ≤ most)
+pub bytes_are_counted : (E : Type 0) (most n : ℕ) → Moved {E = E} most (Ok n) ↔ (n ≤ most)
 bytes_are_counted E most n = (λ h. h, λ h. h)
 
 -- A file that is too long is read far enough to be refused: the bytes that it is read into are one more than a card or
@@ -110,7 +113,7 @@ module _ (number : ℕ) where
   the_word_is_refused = words.any_other_is_refused number
 
 -- "If either file is missing it prints `no-file 0 0 0`."
-pub a_missing_file_is_printed : printed (line_of NoFile) ≡ bytes "no-file 0 0 0" ++ (10 ∷ [])
+pub a_missing_file_is_printed : printed (line_of None) ≡ bytes "no-file 0 0 0" ++ (10 ∷ [])
 unfolding decimal
 a_missing_file_is_printed = refl
 
@@ -118,7 +121,7 @@ a_missing_file_is_printed = refl
 -- accepted 2 2 6": these are the 18 and the 4 bytes that were read, whatever stands after them.
 pub it_prints_exactly :
     (behind more : List ℕ)
-    → printed (line_of (told_of (Bytes 18) (card.printed ++ behind) (Bytes 4) (printed_log ++ more) room))
+    → printed (line_of (told_of (Some 18) (card.printed ++ behind) (Some 4) (printed_log ++ more) room))
     ≡ bytes "accepted 2 2 6" ++ (10 ∷ [])
 unfolding decimal
-it_prints_exactly behind more = ap (λ j. printed (line_of (Answer j))) the_printed_log_is_accepted
+it_prints_exactly behind more = ap (λ j. printed (line_of (Some j))) the_printed_log_is_accepted

@@ -1,10 +1,9 @@
 -- The line that the program prints: as a word and three numbers, and as bytes.
 -- Assumes nothing.
-use Rattle.std.specs.Prelude.{ℕ, zero, suc, ◌+◌, ◌/◌, ◌%◌, cond, List, [], ◌∷◌, ◌++◌, eqb, ltb}
+use Rattle.std.specs.Prelude.{ℕ, zero, suc, ◌+◌, ◌/◌, ◌%◌, cond, List, [], ◌∷◌, ◌++◌, eqb, ltb, Option, Some, None}
 use Prim.Native.Char.{code}
 use Prim.Native.String.{String, [] as none, ◌∷◌ as ◌then◌}
-use Rattle.bench_spec.specs.declared.Told.{Told}
-use Rattle.bench_spec.specs.declared.Told.TheVariants.{Answer, NoFile}
+use Rattle.judge_spec.specs.declared.Judged.{Judged}
 
 -- A text, byte by byte.
 abbrev pub bytes : String → List ℕ
@@ -42,15 +41,15 @@ pub record Line : Type 0 where
   pub places : ℕ
 
 -- The line for what the program tells. "If either file is missing it prints `no-file 0 0 0`" (01, Logs worked by hand).
-abbrev pub line_of : Told → Line
-line_of (Answer judged) =
+abbrev pub line_of : Option Judged → Line
+line_of (Some judged) =
     record {
       word = word_of judged.number;
       place = judged.place;
       steps = judged.steps;
       places = judged.places;
     }
-line_of NoFile = record { word = bytes "no-file"; place = 0; steps = 0; places = 0 }
+line_of None = record { word = bytes "no-file"; place = 0; steps = 0; places = 0 }
 
 -- A blank, and then the number.
 abbrev pub apart : ℕ → List ℕ

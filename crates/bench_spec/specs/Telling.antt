@@ -1,11 +1,8 @@
 -- What the program tells of the contents of its two files.
 -- Assumes nothing.
-use Rattle.std.specs.Prelude.{ℕ, ◌≤◌, List, ◌≡◌, length, take}
+use Rattle.std.specs.Prelude.{ℕ, ◌≤◌, List, ◌≡◌, length, take, Option, Some, None}
+use Rattle.judge_spec.specs.declared.Judged.{Judged}
 use Rattle.judge_spec.specs.Judgment.{judgment, room_after}
-use Rattle.bench_spec.specs.declared.Content.{Content}
-use Rattle.bench_spec.specs.declared.Content.TheVariants.{Bytes, Nothing}
-use Rattle.bench_spec.specs.declared.Told.{Told}
-use Rattle.bench_spec.specs.declared.Told.TheVariants.{Answer, NoFile}
 
 -- "With allowance 1,000,000 and room 16,384" (01, Logs worked by hand).
 abbrev pub allowance : ℕ
@@ -14,30 +11,31 @@ allowance = 1_000_000
 abbrev pub room : ℕ
 room = 16_384
 
--- A content was read into these lent bytes: there are at least as many as it says.
-abbrev pub ReadInto : List ℕ → Content → Type 0
-ReadInto bytes (Bytes n) = n ≤ length bytes
-ReadInto bytes Nothing = Unit
+-- What reading a file resulted in, how many bytes were read or nothing that can be relied on, was read into these lent
+-- bytes: there are at least as many as it says.
+abbrev pub ReadInto : List ℕ → Option ℕ → Type 0
+ReadInto bytes (Some n) = n ≤ length bytes
+ReadInto bytes None = Unit
 
 -- What the program tells of the contents of `chart` and `log`, read into these bytes, with a room of length `long`: the
--- judgment of what was read; or, "if either file is missing", just that (01, Logs worked by hand).
-abbrev pub told_of : Content → List ℕ → Content → List ℕ → ℕ → Told
-told_of (Bytes m) card (Bytes n) log long = Answer (judgment (take m card) (take n log) allowance long)
-told_of (Bytes m) card Nothing log long = NoFile
-told_of Nothing card content log long = NoFile
+-- judgment of what was read; or none, "if either file is missing" (01, Logs worked by hand).
+abbrev pub told_of : Option ℕ → List ℕ → Option ℕ → List ℕ → ℕ → Option Judged
+told_of (Some m) card (Some n) log long = Some (judgment (take m card) (take n log) allowance long)
+told_of (Some m) card None log long = None
+told_of None card content log long = None
 
 -- The room afterwards: as the judgment leaves it, or as found.
-abbrev pub room_told : Content → List ℕ → Content → List ℕ → List ℕ → List ℕ
-room_told (Bytes m) card (Bytes n) log found = room_after (take m card) (take n log) found
-room_told (Bytes m) card Nothing log found = found
-room_told Nothing card content log found = found
+abbrev pub room_told : Option ℕ → List ℕ → Option ℕ → List ℕ → List ℕ → List ℕ
+room_told (Some m) card (Some n) log found = room_after (take m card) (take n log) found
+room_told (Some m) card None log found = found
+room_told None card content log found = found
 
 -- What the program reports: what it tells of some contents of the two files, with 01's lending. Each file was read into
 -- one byte more than a card or a log may have, so that a longer file is found too long. No contract can say which bytes
--- a file has.
-pub record Reports (told : Told) : Type 0 where
-  pub chart : Content
-  pub log : Content
+-- the files of a directory have.
+pub record Reports (told : Option Judged) : Type 0 where
+  pub chart : Option ℕ
+  pub log : Option ℕ
   pub card_bytes : List ℕ
   pub log_bytes : List ℕ
   pub card_long : length card_bytes ≡ 4097

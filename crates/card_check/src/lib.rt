@@ -3,64 +3,60 @@
 // card_spec/specs/Note.antt.
 #![tactic(auto)]
 
-ghost use Rattle.std.specs.Prelude.{◌≡◌};
-ghost use Rattle.card_spec.specs.Checking.{checking, refusal};
+ghost use Rattle.std.specs.Prelude.{◌≡◌, MatchResult};
+ghost use Rattle.card_spec.specs.Parts.{nodes_of};
+ghost use Rattle.card_spec.specs.Figures.{depth_of};
+ghost use Rattle.card_spec.specs.Checking.{checking, findings, first};
 ghost use Rattle.card_spec.specs.Note.{note_of};
 
-use card_spec::{Checked, Finding};
+use card_spec::Checked;
 use node::Node;
+use number::Refusal;
 
 mod rules;
 
-fn refused(number: u32, place: u32) -> Checked
-    ensures { result ≡ refusal number place }
+// The depth of a sound card, or what refuses any other. The rules stand in the order of 01's table, and the first
+// broken rule refuses the card.
+fn measure(card: &[u8]) -> Result<u32, Refusal>
+    ensures { MatchResult result
+        (λ depth. (first (findings card.now) ≡ Ok tt) × (depth ≡ depth_of (nodes_of card.now)))
+        (λ refusal. first (findings card.now) ≡ Err refusal) }
 {
-    Checked {
-        number,
-        place,
-        nodes: 0,
-        depth: 0,
-        lifelines: 0,
-    }
+    rules::frame(card)?;
+    rules::back_distance(card)?;
+    rules::counts(card)?;
+    let nodes = card_parts::nodes(card);
+    card_faults::lowest_faulty(nodes, card_parts::counts(card))?;
+    card_tree::lowest_misused(nodes)?;
+    let depth = card_figures::depth(nodes);
+    Refusal::TooDeep.unless(depth <= Node::DEPTH)?;
+    Ok(depth)
 }
 
-// The answer to any run of bytes as a card. The rules stand in the order of 01's table, and the first broken rule gives
-// the answer.
+// What refuses a card, if anything does.
+pub fn pass(card: &[u8]) -> Result<(), Refusal>
+    ensures { result ≡ first (findings card.now) }
+{
+    measure(card)?;
+    Ok(())
+}
+
+// The answer to any run of bytes as a card.
 pub fn check(card: &[u8]) -> Checked
     ensures { result ≡ checking card.now }
 {
-    if !rules::is_framed(card) {
-        return refused(number::CARD_FRAME, 0);
-    }
-    if !rules::is_back_in_rule(card) {
-        return refused(number::BACK_DISTANCE, 0);
-    }
-    if !rules::are_counts_in_range(card) {
-        return refused(number::COUNTS, 0);
-    }
-    let nodes = card_parts::nodes(card);
-    let fault = card_faults::lowest_faulty(
-        nodes,
-        card_parts::lifelines(card),
-        card_parts::messages(card),
-    );
-    if let Finding::Refused { number, place } = fault {
-        return refused(number, place);
-    }
-    let misuse = card_tree::lowest_misused(nodes);
-    if let Finding::Refused { number, place } = misuse {
-        return refused(number, place);
-    }
-    let depth = card_figures::depth(nodes);
-    if Node::DEPTH < depth {
-        return refused(number::TOO_DEEP, 0);
-    }
-    Checked {
-        number: number::OK,
-        place: 0,
-        nodes: card_parts::count(nodes) as u32,
-        depth,
-        lifelines: card_figures::acting(nodes),
+    match measure(card) {
+        Ok(depth) => {
+            let nodes = card_parts::nodes(card);
+            Checked {
+                number: number::OK,
+                place: 0,
+                nodes: card_parts::count(nodes) as u32,
+                depth,
+                lifelines: card_figures::acting(nodes),
+            }
+        }
+        Err(refusal) => Checked::from(refusal),
     }
 }
 
@@ -68,11 +64,11 @@ pub fn check(card: &[u8]) -> Checked
 pub fn note(card: &[u8]) -> &[u8]
     ensures { result.ref_ptr ≡ card.entry.ref_ptr × result.now ≡ note_of card.now }
 {
-    let checked = check(card);
-    let number = checked.number;
-    if number != number::OK {
-        return &card[0..0];
+    match pass(card) {
+        Ok(()) => {
+            let end = card_parts::first_at(card);
+            &card[0..end]
+        }
+        Err(_) => &card[0..0],
     }
-    let end = card_parts::first_at(card);
-    &card[0..end]
 }

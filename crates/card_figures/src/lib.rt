@@ -2,7 +2,7 @@
 // card_spec/specs/Figures.antt.
 #![tactic(auto)]
 
-ghost use Rattle.std.specs.Prelude.{◌≡◌, ℕ, ◌+◌, ◌<◌, max, T, get_or};
+ghost use Rattle.std.specs.Prelude.{◌≡◌, ℕ, ◌+◌, ◌<◌, T, get_or};
 ghost use Rattle.node_spec.specs.Kind.{kind_of};
 ghost use Rattle.node_spec.specs.Row.{children, highest, Below};
 ghost use Rattle.card_spec.specs.Figures.{depth_of, acts_as, acting_of};
@@ -11,41 +11,33 @@ ghost use Rattle.card_figures.specs.Bits.{bits_of};
 
 use node::Node;
 
-fn larger(x: u8, y: u8) -> u8
-    ensures { result ≡ max x y }
-{
-    if x < y { y } else { x }
-}
-
 // The depth of a node: one more than that of its deepest child.
 fn depth_over(depths: &[u8; Node::NODES], n: Node) -> u8
     requires { Below 255 (children n) × ((j : ℕ) → get_or depths.now j 0 < 255) }
     ensures { result ≡ 1 + highest (λ j. get_or depths.now j 0) (children n) }
 {
-    let kind = n.kind;
     let a = n.a as usize;
     let b = n.b as usize;
-    match kind {
+    match n.kind {
         Node::EMPTY..=Node::RECEPTION => 1,
-        Node::STRICT..=Node::ALT => 1 + larger(depths[a], depths[b]),
+        Node::STRICT..=Node::ALT => 1 + depths[a].max(depths[b]),
         Node::STRICT_LOOP..=Node::PAR_LOOP => 1 + depths[a],
         _ => 1,
     }
 }
 
-// The depth of the root, counting a leaf as 1.
+// The depth of the root, counting a leaf as 1. The depths stand in an array beside the nodes: no heap is used, and the
+// card is the caller's.
 pub fn depth(nodes: &[u8]) -> u32
     requires { Faultless nodes.now }
     ensures { result ≡ depth_of nodes.now }
 {
     let mut depths = [0u8; Node::NODES];
     let count = card_parts::count(nodes);
-    let mut i = 0;
-    while i < count {
+    for i in 0..count {
         depths[i] = depth_over(&depths, card_parts::node_at(nodes, i));
-        i += 1;
     }
-    depths[count - 1] as u32
+    u32::from(depths[count - 1])
 }
 
 // The set that has the lifeline of an action, as 16 bits; the empty set for any other node.
@@ -53,8 +45,7 @@ fn actor(n: Node) -> u16
     requires { (d : ℕ) → T (acts_as (kind_of n.kind) n d) → d < 16 }
     ensures { result ≡ bits_of (acts_as (kind_of n.kind) n) 16 }
 {
-    let kind = n.kind;
-    match kind {
+    match n.kind {
         Node::EMPTY => 0,
         Node::EMISSION..=Node::RECEPTION => 1 << n.a,
         _ => 0,
@@ -66,12 +57,9 @@ pub fn acting(nodes: &[u8]) -> u32
     requires { Faultless nodes.now }
     ensures { result ≡ acting_of nodes.now }
 {
-    let count = card_parts::count(nodes);
     let mut set: u16 = 0;
-    let mut i = 0;
-    while i < count {
+    for i in 0..card_parts::count(nodes) {
         set |= actor(card_parts::node_at(nodes, i));
-        i += 1;
     }
-    u16::count_ones(set)
+    set.count_ones()
 }

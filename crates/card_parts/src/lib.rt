@@ -7,6 +7,7 @@ ghost use Rattle.std.specs.Prelude.{◌≡◌, ◌<◌};
 ghost use Rattle.card_spec.specs.Parts.{trailer_byte, back_of, lifelines_of, messages_of, trailer_at, first_at, nodes_of};
 ghost use Rattle.card_spec.specs.Nodes.{count_of, node_at, spare_at};
 
+use card_spec::Counts;
 use node::Node;
 
 // Byte k of the trailer; 0 if the card is shorter than a trailer.
@@ -18,7 +19,7 @@ pub fn trailer(card: &[u8], k: usize) -> u32
     if size < Node::TRAILER_BYTES {
         return 0;
     }
-    number::wide(card[size - Node::TRAILER_BYTES + k])
+    u32::from(card[size - Node::TRAILER_BYTES + k])
 }
 
 // The back distance, low byte first: how many bytes the nodes take.
@@ -30,41 +31,29 @@ pub fn back(card: &[u8]) -> usize
     low + 256 * high
 }
 
-// How many lifelines are declared.
-pub fn lifelines(card: &[u8]) -> u32
-    ensures { result ≡ lifelines_of card.now }
+// How many lifelines and messages are declared.
+pub fn counts(card: &[u8]) -> Counts
+    ensures lifelines { result.lifelines ≡ lifelines_of card.now }
+    ensures messages { result.messages ≡ messages_of card.now }
 {
-    trailer(card, 2)
-}
-
-// How many messages are declared.
-pub fn messages(card: &[u8]) -> u32
-    ensures { result ≡ messages_of card.now }
-{
-    trailer(card, 3)
+    Counts {
+        lifelines: trailer(card, 2),
+        messages: trailer(card, 3),
+    }
 }
 
 // Where the trailer begins.
 pub fn trailer_at(card: &[u8]) -> usize
     ensures { result ≡ trailer_at card.now }
 {
-    let size = card.len();
-    if size < Node::TRAILER_BYTES {
-        return 0;
-    }
-    size - Node::TRAILER_BYTES
+    card.len().saturating_sub(Node::TRAILER_BYTES)
 }
 
 // Where the first node begins, which is where the note ends.
 pub fn first_at(card: &[u8]) -> usize
     ensures { result ≡ first_at card.now }
 {
-    let end = trailer_at(card);
-    let back = back(card);
-    if end < back {
-        return 0;
-    }
-    end - back
+    trailer_at(card).saturating_sub(back(card))
 }
 
 // The bytes of the nodes.
@@ -90,9 +79,9 @@ pub fn node_at(nodes: &[u8], i: usize) -> Node
 {
     let at = i * Node::NODE_BYTES;
     Node {
-        kind: number::wide(nodes[at]),
-        a: number::wide(nodes[at + 1]),
-        b: number::wide(nodes[at + 2]),
+        kind: u32::from(nodes[at]),
+        a: u32::from(nodes[at + 1]),
+        b: u32::from(nodes[at + 2]),
     }
 }
 
@@ -101,5 +90,5 @@ pub fn spare_at(nodes: &[u8], i: usize) -> u32
     requires { i < count_of nodes.now }
     ensures { result ≡ spare_at nodes.now i }
 {
-    number::wide(nodes[i * Node::NODE_BYTES + 3])
+    u32::from(nodes[i * Node::NODE_BYTES + 3])
 }

@@ -2,16 +2,21 @@
 -- Assumes nothing.
 use Prim.Native.Nat.{ℕ, ◌≤◌, ◌<◌}
 use mathlib.Core.Bool.{true, false}
-use mathlib.Core.List.{List}
+use mathlib.Core.List.{List, []}
 use mathlib.Core.Logic.{◌≢◌}
 use mathlib.Core.Path.{◌≡◌, refl}
-use borrow.Author.Tests.{le-leb, lt-leb}
-use Rattle.card_spec.specs.declared.Finding.{Finding}
-use Rattle.card_spec.specs.declared.Finding.TheVariants.{Fine, Refused}
-use Rattle.card_spec.specs.Parts.{lifelines_of, messages_of, nodes_of}
+use lib.ListN.{take}
+use borrow.Author.Tests.{le-leb, lt-leb, ne_eqb}
+use Rattle.std.specs.Prelude.{Result, Ok, Err}
+use Rattle.number.specs.declared.Refusal.{Refusal}
+use Rattle.number.specs.Refusals.{number_of}
+use Rattle.number.proofs.Real.{refusal_is_not_zero}
+use Rattle.number.specs.declared.Refusal.TheVariants.{CardFrame, BackDistance, Counts, TooDeep}
+use Rattle.card_spec.specs.Parts.{first_at, lifelines_of, messages_of, nodes_of}
 use Rattle.card_spec.specs.Figures.{depth_of}
 use Rattle.card_spec.specs.Findings.{framed, back_in_rule, counts_in_range, faulty, misused}
-use Rattle.card_spec.specs.Checking.{checking, findings, first, answered, refusal, soundness}
+use Rattle.card_spec.specs.Note.{note_of}
+use Rattle.card_spec.specs.Checking.{checking, findings, first, answered, refused, soundness}
 
 -- The rules of the whole card are passed.
 pub record Passed (card : List ℕ) : Type 0 where
@@ -20,55 +25,77 @@ pub record Passed (card : List ℕ) : Type 0 where
   pub three : counts_in_range card ≡ true
 
 module _ (card : List ℕ) where
-  abbrev pub faults : Finding
+  abbrev pub faults : Result Unit Refusal
   faults = faulty (lifelines_of card) (messages_of card) (nodes_of card)
 
-  pub answer_one : framed card ≡ false → checking card ≡ refusal 1 0
+  pub answer_one : framed card ≡ false → checking card ≡ refused CardFrame
   unfolding checking
   answer_one h = rw h
 
-  pub answer_two : framed card ≡ true → back_in_rule card ≡ false → checking card ≡ refusal 2 0
+  pub answer_two : framed card ≡ true → back_in_rule card ≡ false → checking card ≡ refused BackDistance
   unfolding checking
   answer_two h₁ h₂ = rw (h₁, h₂)
 
   pub answer_three :
-      framed card ≡ true → back_in_rule card ≡ true → counts_in_range card ≡ false → checking card ≡ refusal 3 0
+      framed card ≡ true → back_in_rule card ≡ true → counts_in_range card ≡ false → checking card ≡ refused Counts
   unfolding checking
   answer_three h₁ h₂ h₃ = rw (h₁, h₂, h₃)
 
-  -- A card that is refused has a finding with that number and place.
-  pub refused_so_found :
-      (checking card).number ≢ 0 → first (findings card) ≡ Refused (checking card).number (checking card).place
+  -- What refuses a card gives its number and place,
+  pub found_so_refused : (refusal : Refusal) → first (findings card) ≡ Err refusal → checking card ≡ refused refusal
   unfolding checking
-  refused_so_found h = by (first (findings card)) h
+  found_so_refused refusal h = rw h
+
+  -- a card that nothing refuses gets its figures,
+  pub passed→sound : first (findings card) ≡ Ok tt → checking card ≡ soundness (nodes_of card)
+  unfolding checking
+  passed→sound h = rw h
+
+  -- and a card with any other number was refused.
+  pub refused_so_found :
+      (checking card).number ≢ 0
+      → (refusal : Refusal) × (first (findings card) ≡ Err refusal) × (checking card ≡ refused refusal)
+  unfolding checking
+  refused_so_found h = by (first (findings card)) refl h
     where
-      by : (f : Finding) → (answered f (soundness (nodes_of card))).number ≢ 0
-          → f ≡ Refused (answered f (soundness (nodes_of card))).number (answered f (soundness (nodes_of card))).place
-      by Fine h = absurd (h refl)
-      by (Refused number place) h = refl
+      by : (f : Result Unit Refusal) → first (findings card) ≡ f
+          → (answered f (soundness (nodes_of card))).number ≢ 0
+          → (refusal : Refusal) × (first (findings card) ≡ Err refusal)
+          × (answered (first (findings card)) (soundness (nodes_of card)) ≡ refused refusal)
+      by (Ok u) e h = absurd (h refl)
+      by (Err refusal) e h = (refusal, e, rw e)
+
+  -- The note of a card that nothing refuses, and of any other.
+  pub note_of_a_sound_card : first (findings card) ≡ Ok tt → note_of card ≡ take (first_at card) card
+  note_of_a_sound_card h = rw (passed→sound h)
+
+  pub note_of_a_refused_card : (refusal : Refusal) → first (findings card) ≡ Err refusal → note_of card ≡ []
+  note_of_a_refused_card refusal h =
+      rw (found_so_refused refusal h, ne_eqb (number_of refusal) 0 (refusal_is_not_zero refusal))
 
   module _ (p : Passed card) where
-    pub answer_four : (number place : ℕ) → faults ≡ Refused number place → checking card ≡ refusal number place
+    pub answer_four : (refusal : Refusal) → faults ≡ Err refusal → checking card ≡ refused refusal
     unfolding checking
-    answer_four number place h₄ = rw (p.one, p.two, p.three, h₄)
+    answer_four refusal h₄ = rw (p.one, p.two, p.three, h₄)
 
     pub answer_five :
-        (number place : ℕ) → faults ≡ Fine → misused (nodes_of card) ≡ Refused number place
-        → checking card ≡ refusal number place
+        (refusal : Refusal) → faults ≡ Ok tt → misused (nodes_of card) ≡ Err refusal
+        → checking card ≡ refused refusal
     unfolding checking
-    answer_five number place h₄ h₅ = rw (p.one, p.two, p.three, h₄, h₅)
+    answer_five refusal h₄ h₅ = rw (p.one, p.two, p.three, h₄, h₅)
 
     pub answer_six :
-        faults ≡ Fine → misused (nodes_of card) ≡ Fine → 16 < depth_of (nodes_of card) → checking card ≡ refusal 6 0
+        faults ≡ Ok tt → misused (nodes_of card) ≡ Ok tt → 16 < depth_of (nodes_of card)
+        → checking card ≡ refused TooDeep
     unfolding checking
     answer_six h₄ h₅ h₆ = rw (p.one, p.two, p.three, h₄, h₅, lt-leb (depth_of (nodes_of card)) 16 h₆)
 
     pub nothing_found :
-        faults ≡ Fine → misused (nodes_of card) ≡ Fine → depth_of (nodes_of card) ≤ 16 → first (findings card) ≡ Fine
+        faults ≡ Ok tt → misused (nodes_of card) ≡ Ok tt → depth_of (nodes_of card) ≤ 16 → first (findings card) ≡ Ok tt
     nothing_found h₄ h₅ h₆ = rw (p.one, p.two, p.three, h₄, h₅, le-leb (depth_of (nodes_of card)) 16 h₆)
 
     pub answer_sound :
-        faults ≡ Fine → misused (nodes_of card) ≡ Fine → depth_of (nodes_of card) ≤ 16
+        faults ≡ Ok tt → misused (nodes_of card) ≡ Ok tt → depth_of (nodes_of card) ≤ 16
         → checking card ≡ soundness (nodes_of card)
     unfolding checking
     answer_sound h₄ h₅ h₆ = rw (nothing_found h₄ h₅ h₆)

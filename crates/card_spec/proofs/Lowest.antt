@@ -1,66 +1,59 @@
--- The lowest node with a fault, and how a loop finds it: all nodes so far are fine, and the loop goes on or has found
--- it.
+-- The lowest node that does not pass a test, and how a loop finds it: all nodes so far pass, and the loop goes on or
+-- has found it.
 -- All by induction on how many nodes were looked at.
 -- Assumes nothing.
 use Prim.Native.Nat.{ℕ, zero, suc, ◌+◌, ◌<◌}
-use mathlib.Core.Path.{◌≡◌, refl, sym, ◌∙◌}
+use mathlib.Core.Bool.{Bool, true, false}
+use mathlib.Core.Path.{◌≡◌, refl}
 use native.Mathlib.Decide.{ℕ_discrete}
 use native.Mathlib.Numerals.{add-one}
 use native.Mathlib.Omega.{arith}
-use borrow.Author.Tests.{eq-eqb, ne_eqb}
-use Rattle.card_spec.specs.declared.Finding.{Finding}
-use Rattle.card_spec.specs.declared.Finding.TheVariants.{Fine, Refused}
-use Rattle.card_spec.specs.Findings.{finding, or_else, lowest}
+use Rattle.std.specs.Prelude.{Result, Ok, Err}
+use Rattle.number.specs.declared.Refusal.{Refusal}
+use Rattle.number.specs.Refusals.{rule}
+use Rattle.card_spec.specs.Findings.{or_else, lowest}
 
-pub finding_none : (number place : ℕ) → number ≡ 0 → finding number place ≡ Fine
-finding_none number place e = rw (eq-eqb number 0 e)
+-- A rule does not refuse only if it holds.
+pub holds→ : (refusal : Refusal) (holds : Bool) → rule refusal holds ≡ Ok tt → holds ≡ true
+holds→ refusal true h = refl
+holds→ refusal false h = cc
 
-pub finding_some : (number place : ℕ) → (number ≡ 0 → ⊥) → finding number place ≡ Refused number place
-finding_some number place h = rw (ne_eqb number 0 h)
+-- The first refusal of two findings is none only if neither refuses.
+pub or_fine→ : (f g : Result Unit Refusal) → or_else f g ≡ Ok tt → (f ≡ Ok tt) × (g ≡ Ok tt)
+or_fine→ (Ok u) g h = (refl, h)
+or_fine→ (Err refusal) g h = (h, cc)
 
--- A finding is fine only if its number is 0.
-finding_fine→ : (number place : ℕ) → finding number place ≡ Fine → number ≡ 0
-finding_fine→ number place h = by (ℕ_discrete number 0)
-  where
-    by : Dec (number ≡ 0) → number ≡ 0
-    by (yes e) = e
-    by (no d) = let never : Refused number place ≡ Fine = sym (finding_some number place d) ∙ h in cc
+module _ (passes : ℕ → Bool) (refusal : ℕ → Refusal) where
+  -- All nodes so far pass, and this one does too.
+  pub fine_so_far :
+      (i : ℕ) → lowest passes refusal i ≡ Ok tt → passes i ≡ true → lowest passes refusal (i + 1) ≡ Ok tt
+  fine_so_far i h e = rw (add-one i, h, e)
 
--- The first refusal of two findings is none only if both are fine.
-pub or_fine→ : (f g : Finding) → or_else f g ≡ Fine → (f ≡ Fine) × (g ≡ Fine)
-or_fine→ Fine g h = (refl, h)
-or_fine→ (Refused number place) g h = (h, cc)
-
-module _ (fault : ℕ → ℕ) where
-  -- All nodes so far are fine, and this one is too.
-  pub fine_so_far : (i : ℕ) → lowest fault i ≡ Fine → fault i ≡ 0 → lowest fault (i + 1) ≡ Fine
-  fine_so_far i h e = rw (add-one i, h, finding_none (fault i) i e)
-
-  -- All nodes so far are fine, and this one is not.
+  -- All nodes so far pass, and this one does not.
   pub found_here :
-      (i n : ℕ) → i < n → lowest fault i ≡ Fine → (fault i ≡ 0 → ⊥) → lowest fault n ≡ Refused (fault i) i
+      (i n : ℕ) → i < n → lowest passes refusal i ≡ Ok tt → passes i ≡ false
+      → lowest passes refusal n ≡ Err (refusal i)
   found_here i zero l h e = absurd (omega arith)
   found_here i (suc n) l h e = last (ℕ_discrete i n) (λ k. found_here i n k h e)
     where
       last :
-          Dec (i ≡ n) → (i < n → lowest fault n ≡ Refused (fault i) i)
-          → or_else (lowest fault n) (finding (fault n) n) ≡ Refused (fault i) i
-      last (yes same) before = rw (← same, h, finding_some (fault i) i e)
+          Dec (i ≡ n) → (i < n → lowest passes refusal n ≡ Err (refusal i))
+          → or_else (lowest passes refusal n) (rule (refusal n) (passes n)) ≡ Err (refusal i)
+      last (yes same) before = rw (← same, h, e)
       last (no other) before = rw (before (omega arith))
 
-  -- If no node has a fault, nothing is found,
-  pub none→fine : (n : ℕ) → ((i : ℕ) → i < n → fault i ≡ 0) → lowest fault n ≡ Fine
+  -- If every node passes, nothing is found,
+  pub none→fine : (n : ℕ) → ((i : ℕ) → i < n → passes i ≡ true) → lowest passes refusal n ≡ Ok tt
   none→fine zero none = refl
-  none→fine (suc n) none =
-      rw (none→fine n (λ i h. none i (omega arith)), finding_none (fault n) n (none n (omega arith)))
+  none→fine (suc n) none = rw (none→fine n (λ i h. none i (omega arith)), none n (omega arith))
 
   -- and nothing is found only then.
-  pub fine→none : (n : ℕ) → lowest fault n ≡ Fine → (i : ℕ) → i < n → fault i ≡ 0
+  pub fine→none : (n : ℕ) → lowest passes refusal n ≡ Ok tt → (i : ℕ) → i < n → passes i ≡ true
   fine→none zero h i l = absurd (omega arith)
   fine→none (suc n) h i l =
-      let (before, here) = or_fine→ (lowest fault n) (finding (fault n) n) h in
+      let (before, here) = or_fine→ (lowest passes refusal n) (rule (refusal n) (passes n)) h in
       last (ℕ_discrete i n) here (λ k. fine→none n before i k)
     where
-      last : Dec (i ≡ n) → finding (fault n) n ≡ Fine → (i < n → fault i ≡ 0) → fault i ≡ 0
-      last (yes same) here before = rw same (finding_fine→ (fault n) n here)
+      last : Dec (i ≡ n) → rule (refusal n) (passes n) ≡ Ok tt → (i < n → passes i ≡ true) → passes i ≡ true
+      last (yes same) here before = rw same (holds→ (refusal n) (passes n) here)
       last (no other) here before = before (omega arith)

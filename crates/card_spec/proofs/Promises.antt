@@ -13,8 +13,9 @@ use lib.ListN.{length, take}
 use borrow.Author.Tests.{eq-eqb, ne_eqb}
 use Rattle.chart_spec.specs.Chart.{size, depth}
 use Rattle.card_spec.specs.declared.Checked.{Checked}
-use Rattle.card_spec.specs.declared.Finding.{Finding}
-use Rattle.card_spec.specs.declared.Finding.TheVariants.{Fine, Refused}
+use Rattle.std.specs.Prelude.{Result, Ok, Err}
+use Rattle.number.specs.declared.Refusal.{Refusal}
+use Rattle.number.specs.Refusals.{number_of, place_of}
 use Rattle.card_spec.specs.Parts.{lifelines_of, messages_of, nodes_of}
 use Rattle.card_spec.specs.Nodes.{card_chart}
 use Rattle.card_spec.specs.Figures.{tally}
@@ -24,7 +25,8 @@ use Rattle.card_spec.specs.Table.{Told, Sound, back, lifelines, messages}
 use Rattle.card_spec.specs.Table.Told.{one, two, three, four, five, six, sound}
 use Rattle.card_spec.specs.Meaning.{Declared, deeds}
 use Rattle.card_spec.proofs.Deciding.{at_least_six, same_back, same_lifelines, same_messages}
-use Rattle.card_spec.proofs.Telling.{told→answer, answer→told, sound→answer}
+use Rattle.card_spec.proofs.Telling.{told→answer, answer→told, sound→answer, sound→nothing_found}
+use Rattle.card_spec.proofs.Answers.{found_so_refused, passed→sound}
 use Rattle.card_spec.proofs.Telling.{sound→faultless, sound→once, sound→orderly}
 use Rattle.card_spec.proofs.Charted.{as_many_nodes, the_same_act, chart_declared}
 
@@ -38,10 +40,10 @@ told_zero card (six t h) e = absurd (omega arith)
 told_zero card (sound s) e = s
 
 no_figures :
-    (sound : Checked) (f : Finding) → sound.number ≡ 0 → (answered f sound).number ≢ 0
+    (sound : Checked) (f : Result Unit Refusal) → sound.number ≡ 0 → (answered f sound).number ≢ 0
     → ((answered f sound).nodes ≡ 0) × ((answered f sound).depth ≡ 0) × ((answered f sound).lifelines ≡ 0)
-no_figures s Fine e h = absurd (h e)
-no_figures s (Refused number place) e h = (refl, refl, refl)
+no_figures s (Ok u) e h = absurd (h e)
+no_figures s (Err refusal) e h = (refl, refl, refl)
 
 told_at_most_six : (card : List ℕ) {number place : ℕ} → Told card number place → number ≤ 6
 told_at_most_six card (one h) = omega arith
@@ -79,6 +81,15 @@ module _ (card : List ℕ) where
   -- 0 exactly for sound cards.
   pub zero_exactly_for_sound_cards : ((checking card).number ≡ 0) ↔ Sound card
   zero_exactly_for_sound_cards = (told_zero card (answer→told card), λ s. (told→answer card (sound s)).0)
+
+  -- Nothing refuses exactly the sound cards; and what refuses any other has the number and place that the table tells.
+  pub nothing_refuses_exactly_sound_cards : (first (findings card) ≡ Ok tt) ↔ Sound card
+  nothing_refuses_exactly_sound_cards =
+      (λ e. zero_exactly_for_sound_cards.0 (ap (λ a. a.number) (passed→sound card e)), sound→nothing_found card)
+
+  pub refused_as_the_table_tells :
+      (refusal : Refusal) → first (findings card) ≡ Err refusal → Told card (number_of refusal) (place_of refusal)
+  refused_as_the_table_tells refusal e = rw (found_so_refused card refusal e) at (answer→told card)
 
   -- "A card check that refuses returns number, place and zero figures."
   pub a_refusal_has_no_figures :

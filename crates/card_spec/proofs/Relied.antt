@@ -3,9 +3,9 @@
 -- number.
 -- Assumes nothing.
 use Prim.Native.Nat.{ℕ, ◌-◌, ◌%◌, ◌≤◌, ◌<◌}
-use mathlib.Core.Bool.{Bool, true, false, cond, ◌&&◌}
+use mathlib.Core.Bool.{true, ◌&&◌}
 use mathlib.Core.List.{List}
-use mathlib.Core.Path.{◌≡◌, refl, sym}
+use mathlib.Core.Path.{◌≡◌}
 use native.Mathlib.Omega.{arith}
 use lib.Dec.{T, eqb, ltb, leb, eqb→eq}
 use lib.ListN.{length, drop, length-take, length-drop}
@@ -14,12 +14,12 @@ use Rattle.node.specs.declared.Node.{Node}
 use Rattle.node_spec.specs.Kind.{Kind, kind_of}
 use Rattle.node_spec.specs.Kind.Kind.{nothing, action, pairs, loops, unknown}
 use Rattle.node_spec.specs.Row.{children_as, Below}
-use Rattle.card_spec.specs.declared.Finding.{Finding}
-use Rattle.card_spec.specs.declared.Finding.TheVariants.{Fine}
+use Rattle.std.specs.Prelude.{Ok}
+use Rattle.number.specs.declared.Refusal.TheVariants.{FaultyNode}
 use Rattle.card_spec.specs.Parts.{trailer_at, first_at, back_of, lifelines_of, messages_of, nodes_of}
 use Rattle.card_spec.specs.Nodes.{count_of, node_at, spare_at}
 use Rattle.card_spec.specs.Figures.{acts_as}
-use Rattle.card_spec.specs.Findings.{within, back_in_rule, counts_in_range, in_order, in_order_as, fault_of, faulty}
+use Rattle.card_spec.specs.Findings.{within, back_in_rule, counts_in_range, in_order_as, orderly, faulty}
 use Rattle.card_spec.specs.Faultless.{Faultless}
 use Rattle.chart_spec.proofs.Tests.{both_true}
 use Rattle.card_spec.proofs.Lowest.{fine→none}
@@ -83,20 +83,10 @@ in_order→held (pairs p) lifelines messages i n d h acts = absurd acts
 in_order→held (loops k) lifelines messages i n d h acts = absurd acts
 in_order→held unknown lifelines messages i n d h acts = absurd acts
 
--- A fault of 0 is no fault.
-pub no_fault→ :
-    (lifelines messages : ℕ) (nodes : List ℕ) (i : ℕ) → fault_of lifelines messages nodes i ≡ 0
-    → in_order lifelines messages i (node_at nodes i) (spare_at nodes i) ≡ true
-no_fault→ lifelines messages nodes i h = by (in_order lifelines messages i (node_at nodes i) (spare_at nodes i)) h
-  where
-    by : (ok : Bool) → ◌≡◌ {A = ℕ} (cond ok 0 4) 0 → ok ≡ true
-    by true e = refl
-    by false e = absurd (omega arith)
-
 -- The rules of a card make its nodes faultless.
 pub faultless :
     (card : List ℕ) → InRule card → lifelines_of card ≤ 16
-    → faulty (lifelines_of card) (messages_of card) (nodes_of card) ≡ Fine → Faultless (nodes_of card)
+    → faulty (lifelines_of card) (messages_of card) (nodes_of card) ≡ Ok tt → Faultless (nodes_of card)
 faultless card rule few fine =
     let lines = lifelines_of card in
     let messages = messages_of card in
@@ -106,7 +96,7 @@ faultless card rule few fine =
     = λ i h.
     (both_true (eqb (spare_at nodes i) 0)
     (in_order_as (kind_of (node_at nodes i).kind) lines messages i (node_at nodes i))
-    (no_fault→ lines messages nodes i (fine→none (fault_of lines messages nodes) (count_of nodes) fine i h))).1 in
+    (fine→none (orderly lines messages nodes) FaultyNode (count_of nodes) fine i h)).1 in
     record {
       some = omega (arith, length_nodes card rule, rule.some);
       few = omega (arith, length_nodes card rule, rule.few);
@@ -123,14 +113,6 @@ pub has_few_nodes : (card : List ℕ) → back_in_rule card ≡ true → count_o
 has_few_nodes card h =
     let rule = back→ card h in
     omega (arith, length_nodes card rule, rule.few)
-
--- What is found in the parts that were read from a card is what is found in the card.
-pub found_of_the_card :
-    (card nodes : List ℕ) (lifelines messages : ℕ) {found : Finding}
-    → lifelines ≡ lifelines_of card → messages ≡ messages_of card → nodes ≡ nodes_of card
-    → found ≡ faulty lifelines messages nodes
-    → faulty (lifelines_of card) (messages_of card) (nodes_of card) ≡ found
-found_of_the_card card nodes lifelines messages el em en h = sym (rw (el, em, en) at h)
 
 pub has_few_lifelines : (card : List ℕ) → counts_in_range card ≡ true → lifelines_of card ≤ 16
 has_few_lifelines card h =

@@ -5,7 +5,6 @@
 use Prim.Native.Nat.{ℕ, ◌-◌, ◌<◌, ◌≤◌}
 use mathlib.Core.Bool.{Bool, true, false}
 use mathlib.Core.List.{List}
-use mathlib.Core.Logic.{◌≢◌}
 use mathlib.Core.Path.{◌≡◌, refl, ap}
 use native.Mathlib.Decide.{dec_le}
 use native.Mathlib.Omega.{arith}
@@ -15,11 +14,13 @@ use borrow.Author.Tests.{eqb-true}
 use Rattle.node_spec.specs.Kind.{kind_of}
 use Rattle.node_spec.specs.Row.{uses}
 use Rattle.card_spec.specs.declared.Checked.{Checked}
-use Rattle.card_spec.specs.declared.Finding.TheVariants.{Fine}
+use Rattle.std.specs.Prelude.{Ok}
+use Rattle.number.specs.declared.Refusal.TheVariants.{FaultyNode, MisusedNode}
 use Rattle.card_spec.specs.Parts.{lifelines_of, messages_of, nodes_of}
 use Rattle.card_spec.specs.Nodes.{count_of, node_at, spare_at, card_row}
 use Rattle.card_spec.specs.Figures.{depth_of}
-use Rattle.card_spec.specs.Findings.{framed, back_in_rule, counts_in_range, in_order, in_order_as, faulty, misused}
+use Rattle.card_spec.specs.Findings.{framed, back_in_rule, counts_in_range, in_order_as}
+use Rattle.card_spec.specs.Findings.{orderly, used_once, faulty, misused}
 use Rattle.card_spec.specs.Checking.{checking, findings, first, soundness}
 use Rattle.card_spec.specs.Faultless.{Faultless}
 use Rattle.card_spec.specs.Table.{Trailed, Ordered, Tree, Sound, Told, NoCard, BackOut, FaultAt, MisuseAt, count}
@@ -34,19 +35,13 @@ use Rattle.card_spec.proofs.LowestAt.Looked.{nowhere, somewhere}
 use Rattle.card_spec.proofs.Answers.{Passed, answer_one, answer_two, answer_three}
 use Rattle.card_spec.proofs.Answers.{nothing_found, answer_four, answer_five, answer_six}
 
-four_is_real : ◌≢◌ {A = ℕ} 4 0
-four_is_real e = omega arith
-
-five_is_real : ◌≢◌ {A = ℕ} 5 0
-five_is_real e = omega arith
-
 module _ (card : List ℕ) where
   abbrev nodes : List ℕ
   nodes = nodes_of card
 
   -- Whether node j is a child exactly once.
   abbrev once : ℕ → Bool
-  once j = eqb (uses (card_row card) j) 1
+  once = used_once (card_row card)
 
   long_of : ¬ NoCard card → 6 ≤ length card
   long_of = at_least_six card
@@ -75,29 +70,29 @@ module _ (card : List ℕ) where
     counted_alike = same_count card long rule
 
     -- 4, decided for each node.
-    abbrev orderly : ℕ → Bool
-    orderly i = in_order (lifelines_of card) (messages_of card) i (node_at nodes i) (spare_at nodes i)
+    abbrev ordered : ℕ → Bool
+    ordered = orderly (lifelines_of card) (messages_of card) nodes
 
-    each_order_decided : (i : ℕ) → i < count_of nodes → Decided (orderly i) (FaultAt card i)
+    each_order_decided : (i : ℕ) → i < count_of nodes → Decided (ordered i) (FaultAt card i)
     each_order_decided i h = fault_decided card long rule i (omega (arith, counted_alike))
 
     -- 5, decided for each node.
     each_use_decided : (j : ℕ) → j < count_of nodes - 1 → Decided (once j) (MisuseAt card j)
     each_use_decided j h = misuse_decided card long rule j
 
-  pub no_fault : (o : Ordered card) → faulty (lifelines_of card) (messages_of card) nodes ≡ Fine
+  pub no_fault : (o : Ordered card) → faulty (lifelines_of card) (messages_of card) nodes ≡ Ok tt
   no_fault o =
       let t = o.trailed in
-      no_fault→fine 4 four_is_real (orderly t) (FaultAt card) (count_of nodes) (each_order_decided t)
+      no_fault→fine FaultyNode (ordered t) (FaultAt card) (count_of nodes) (each_order_decided t)
       (λ i h. o.nodes i (omega (arith, counted_alike t)))
 
-  pub no_misuse : (t : Tree card) → misused nodes ≡ Fine
+  pub no_misuse : (t : Tree card) → misused nodes ≡ Ok tt
   no_misuse t =
-      no_fault→fine 5 five_is_real once (MisuseAt card) (count_of nodes - 1) (each_use_decided t.ordered.trailed)
+      no_fault→fine MisusedNode once (MisuseAt card) (count_of nodes - 1) (each_use_decided t.ordered.trailed)
       (λ j h. t.once j (omega (arith, counted_alike t.ordered.trailed)))
 
   -- Nothing refuses a sound card.
-  pub sound→nothing_found : Sound card → first (findings card) ≡ Fine
+  pub sound→nothing_found : Sound card → first (findings card) ≡ Ok tt
   sound→nothing_found s =
       let tree = s.tree in
       let t = tree.ordered.trailed in
@@ -124,14 +119,14 @@ module _ (card : List ℕ) where
       (if_so (counts_decided card (long_of f)) h))
   told→answer (four {i = i} t l) =
       numbered
-      (answer_four card (passed t) 4 i
-      (lowest→refused 4 four_is_real (orderly t) (FaultAt card) (count_of nodes) i (each_order_decided t)
+      (answer_four card (passed t) (FaultyNode i)
+      (lowest→refused FaultyNode (ordered t) (FaultAt card) (count_of nodes) i (each_order_decided t)
       (rw (counted_alike t) l)))
   told→answer (five {j = j} o l) =
       let t = o.trailed in
       numbered
-      (answer_five card (passed t) 5 j (no_fault o)
-      (lowest→refused 5 five_is_real once (MisuseAt card) (count_of nodes - 1) j (each_use_decided t)
+      (answer_five card (passed t) (MisusedNode j) (no_fault o)
+      (lowest→refused MisusedNode once (MisuseAt card) (count_of nodes - 1) j (each_use_decided t)
       (rw (counted_alike t) l)))
   told→answer (six tree h) =
       let t = tree.ordered.trailed in
@@ -156,24 +151,24 @@ module _ (card : List ℕ) where
       (six tree deep)
 
   by_five :
-      (o : Ordered card) → Looked 5 five_is_real once (MisuseAt card) (count_of nodes - 1)
+      (o : Ordered card) → Looked MisusedNode once (MisuseAt card) (count_of nodes - 1)
       → Told card (checking card).number (checking card).place
   by_five o (nowhere e none) =
       by_six (record { ordered = o; once = λ j h. none j (omega (arith, counted_alike o.trailed)) })
       (dec_le (depth_of nodes) 16)
   by_five o (somewhere j e l) =
       let t = o.trailed in
-      answered (answer_five card (passed t) 5 j (no_fault o) e)
+      answered (answer_five card (passed t) (MisusedNode j) (no_fault o) e)
       (five o (rw (counted_alike t) at l))
 
   by_four :
-      (t : Trailed card) → Looked 4 four_is_real (orderly t) (FaultAt card) (count_of nodes)
+      (t : Trailed card) → Looked FaultyNode (ordered t) (FaultAt card) (count_of nodes)
       → Told card (checking card).number (checking card).place
   by_four t (nowhere e none) =
       by_five (record { trailed = t; nodes = λ i h. none i (omega (arith, counted_alike t)) })
-      (look 5 five_is_real once (MisuseAt card) (count_of nodes - 1) (each_use_decided t))
+      (look MisusedNode once (MisuseAt card) (count_of nodes - 1) (each_use_decided t))
   by_four t (somewhere i e l) =
-      answered (answer_four card (passed t) 4 i e) (four t (rw (counted_alike t) at l))
+      answered (answer_four card (passed t) (FaultyNode i) e) (four t (rw (counted_alike t) at l))
 
   by_three :
       ¬ NoCard card → ¬ BackOut card → (b : Bool) → counts_in_range card ≡ b
@@ -183,7 +178,7 @@ module _ (card : List ℕ) where
       (three f b ((counts_decided card (long_of f)).fails e))
   by_three f b true e =
       let t : Trailed card = record { framed = f; back = b; counts = (counts_decided card (long_of f)).passes e } in
-      by_four t (look 4 four_is_real (orderly t) (FaultAt card) (count_of nodes) (each_order_decided t))
+      by_four t (look FaultyNode (ordered t) (FaultAt card) (count_of nodes) (each_order_decided t))
 
   by_two : ¬ NoCard card → (b : Bool) → back_in_rule card ≡ b → Told card (checking card).number (checking card).place
   by_two f false e =

@@ -1,13 +1,14 @@
 -- What refuses a card: numbers 1 to 5 of the table in 01, "Verdicts and numbers given", each by itself. `Checking`
 -- adds 6 and puts them in their order.
 -- Assumes nothing.
-use Rattle.std.specs.Prelude.{ℕ, zero, suc, ◌-◌, ◌%◌, Bool, false, cond, ◌&&◌, List, eqb, ltb, leb, length}
+use Rattle.std.specs.Prelude.{ℕ, zero, suc, ◌-◌, ◌%◌, Bool, false, ◌&&◌, List, eqb, ltb, leb, length, Result, Ok, Err}
+use Rattle.number.specs.declared.Refusal.{Refusal}
+use Rattle.number.specs.declared.Refusal.TheVariants.{FaultyNode, MisusedNode}
+use Rattle.number.specs.Refusals.{rule}
 use Rattle.node.specs.declared.Node.{Node}
 use Rattle.node_spec.specs.Kind.{Kind, kind_of}
 use Rattle.node_spec.specs.Kind.Kind.{nothing, action, pairs, loops, unknown}
 use Rattle.node_spec.specs.Row.{uses}
-use Rattle.card_spec.specs.declared.Finding.{Finding}
-use Rattle.card_spec.specs.declared.Finding.TheVariants.{Fine, Refused}
 use Rattle.card_spec.specs.Parts.{trailer_byte, trailer_at, back_of, lifelines_of, messages_of}
 use Rattle.card_spec.specs.Nodes.{count_of, node_at, spare_at, row_of}
 
@@ -40,32 +41,28 @@ in_order_as unknown lifelines messages i n = false
 abbrev pub in_order : ℕ → ℕ → ℕ → Node → ℕ → Bool
 in_order lifelines messages i n c = eqb c 0 && in_order_as (kind_of n.kind) lifelines messages i n
 
--- The number of node i's fault, 0 if it has none.
-abbrev pub fault_of : ℕ → ℕ → List ℕ → ℕ → ℕ
-fault_of lifelines messages nodes i = cond (in_order lifelines messages i (node_at nodes i) (spare_at nodes i)) 0 4
+-- Node i of the card is in order.
+abbrev pub orderly : ℕ → ℕ → List ℕ → ℕ → Bool
+orderly lifelines messages nodes i = in_order lifelines messages i (node_at nodes i) (spare_at nodes i)
 
--- 5: node j is a child exactly once. The number of its fault, 0 if it has none.
-abbrev pub misuse_of : List Node → ℕ → ℕ
-misuse_of row j = cond (eqb (uses row j) 1) 0 5
-
--- The finding for a number at a place: it refuses unless the number is 0.
-abbrev pub finding : ℕ → ℕ → Finding
-finding number place = cond (eqb number 0) Fine (Refused number place)
+-- 5: node j is a child exactly once.
+abbrev pub used_once : List Node → ℕ → Bool
+used_once row j = eqb (uses row j) 1
 
 -- The first of two findings that refuses.
-abbrev pub or_else : Finding → Finding → Finding
-or_else Fine g = g
-or_else (Refused number place) g = Refused number place
+abbrev pub or_else : Result Unit Refusal → Result Unit Refusal → Result Unit Refusal
+or_else (Ok u) g = g
+or_else (Err refusal) g = Err refusal
 
--- The lowest of the first n nodes that has a fault, with the number of the fault.
-abbrev pub lowest : (ℕ → ℕ) → ℕ → Finding
-lowest fault zero = Fine
-lowest fault (suc n) = or_else (lowest fault n) (finding (fault n) n)
+-- The lowest of the first n nodes that does not pass the test is refused.
+abbrev pub lowest : (ℕ → Bool) → (ℕ → Refusal) → ℕ → Result Unit Refusal
+lowest passes refusal zero = Ok tt
+lowest passes refusal (suc n) = or_else (lowest passes refusal n) (rule (refusal n) (passes n))
 
 -- 4, over all nodes.
-abbrev pub faulty : ℕ → ℕ → List ℕ → Finding
-faulty lifelines messages nodes = lowest (fault_of lifelines messages nodes) (count_of nodes)
+abbrev pub faulty : ℕ → ℕ → List ℕ → Result Unit Refusal
+faulty lifelines messages nodes = lowest (orderly lifelines messages nodes) FaultyNode (count_of nodes)
 
 -- 5, over all nodes but the root.
-abbrev pub misused : List ℕ → Finding
-misused nodes = lowest (misuse_of (row_of nodes)) (count_of nodes - 1)
+abbrev pub misused : List ℕ → Result Unit Refusal
+misused nodes = lowest (used_once (row_of nodes)) MisusedNode (count_of nodes - 1)

@@ -2,8 +2,13 @@
 // promised of cards; the code is in the other crates `card_..`.
 #![tactic(auto)]
 
+ghost use Rattle.std.specs.Prelude.{◌≡◌};
+ghost use Rattle.card_spec.specs.Checking.{refused};
+
+use number::Refusal;
+
 // The answer to a card: number 0, place 0 and the figures of a sound one; or the number and place of a refusal, and
-// no figures.
+// no figures. One struct of numbers, and no `Result`: C reads it.
 #[repr(C)]
 #[derive(Clone, Copy)]
 pub struct Checked {
@@ -14,9 +19,23 @@ pub struct Checked {
     pub lifelines: u32,
 }
 
-// What one of the card's rules finds.
-#[derive(Clone, Copy)]
-pub enum Finding {
-    Fine,
-    Refused { number: u32, place: u32 },
+impl From<Refusal> for Checked {
+    ghost from_gives = { λ refusal result. result ≡ refused refusal };
+
+    fn from(refusal: Refusal) -> Checked {
+        Checked {
+            number: refusal.number(),
+            place: refusal.place(),
+            nodes: 0,
+            depth: 0,
+            lifelines: 0,
+        }
+    }
+}
+
+// How many lifelines and messages a card declares.
+#[derive(Clone, Copy, PartialEq, Eq)]
+pub struct Counts {
+    pub lifelines: u32,
+    pub messages: u32,
 }

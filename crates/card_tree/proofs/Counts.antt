@@ -1,16 +1,20 @@
--- Counting children in a list of counts: what each count is afterwards, and that it stays small.
+-- Counting children in a list of counts: what each count is afterwards, that it stays small, and which nodes are found
+-- by it not to be a child once.
 -- Assumes nothing.
 use Prim.Native.Nat.{ℕ, ◌+◌, ◌*◌, ◌<◌, ◌≤◌}
 use mathlib.Core.Bool.{Bool, true, false, cond}
 use mathlib.Core.List.{List, [], ◌∷◌}
+use mathlib.Core.Logic.{◌≢◌}
 use mathlib.Core.Path.{◌≡◌, refl, sym, ◌∙◌}
 use native.Mathlib.Decide.{ℕ_discrete, dec_lt}
 use native.Mathlib.Numerals.{add-one}
 use native.Mathlib.Omega.{arith}
 use lib.Dec.{eqb}
-use lib.ListN.{length, get_or, replicate, length-set, get_or-replicate, get_or-eq_default}
-use lib.Seq.{get_or-set_same, get_or-set_other, set_out}
+use lib.ListN.{length, get_or, take, replicate, length-set, length-take, get_or-replicate, get_or-eq_default}
+use lib.Seq.{get_or-take, get_or-set_same, get_or-set_other, set_out}
 use borrow.Author.Tests.{eq-eqb, ne_eqb}
+use Rattle.std.specs.Prelude.{Ok, Err}
+use Rattle.number.specs.declared.Refusal.TheVariants.{MisusedNode}
 use Rattle.node.specs.declared.Node.{Node}
 use Rattle.node_spec.specs.Kind.{Kind, kind_of}
 use Rattle.node_spec.specs.Kind.Kind.{nothing, action, pairs, loops, unknown}
@@ -18,7 +22,8 @@ use Rattle.node_spec.specs.Row.{children, children_as, times, uses, Below}
 use Rattle.node_spec.proofs.Rows.{uses_append}
 use Rattle.card_spec.proofs.Rows.{length_row}
 use Rattle.card_spec.specs.Nodes.{node_at, row_to}
-use Rattle.card_spec.specs.Findings.{misuse_of}
+use Rattle.card_spec.specs.Findings.{used_once, lowest}
+use Rattle.card_spec.proofs.Lowest.{found_here, none→fine}
 use Rattle.card_tree.specs.Counting.{one_more, one_more_each}
 
 -- The count of k grows by one, and no other count grows.
@@ -102,9 +107,31 @@ one_more_counted nodes i counts next n en enext low (long, at) =
           (omega (arith, one_more_each_at counts (children n) j room, at j h, uses_append (row_to nodes i) (n ∷ []) j)),
     )
 
--- The count of node j tells whether it is misused.
-pub misused_as_counted : (row : List Node) (j count : ℕ) → count ≡ uses row j → (count ≡ 1 → ⊥) → misuse_of row j ≡ 5
-misused_as_counted row j count e h = rw (ne_eqb (uses row j) 1 (λ one. h (e ∙ one)))
+-- The counts of the nodes before the root tell which node is refused.
+module _ (row : List Node) (counts : List ℕ) (root : ℕ) (long : root ≤ length counts)
+    (counted : (j : ℕ) → j < root → get_or counts j 0 ≡ uses row j) where
+  abbrev before : List ℕ
+  before = take root counts
 
-pub used_once_as_counted : (row : List Node) (j count : ℕ) → count ≡ uses row j → count ≡ 1 → misuse_of row j ≡ 0
-used_once_as_counted row j count e h = rw (eq-eqb (uses row j) 1 (sym e ∙ h))
+  as_counted : (j : ℕ) → j < root → get_or before j 0 ≡ uses row j
+  as_counted j h = get_or-take root counts j 0 h ∙ counted j h
+
+  once : (j : ℕ) → j < root → get_or before j 0 ≡ 1 → used_once row j ≡ true
+  once j h e = eq-eqb (uses row j) 1 (sym (as_counted j h) ∙ e)
+
+  -- The lowest count that is not 1 refuses its node,
+  pub some_misused :
+      (i : ℕ) → i < length before → get_or before i 0 ≢ 1 → ((j : ℕ) → j < i → get_or before j 0 ≡ 1)
+      → lowest (used_once row) MisusedNode root ≡ Err (MisusedNode i)
+  some_misused i inside other ones =
+      let h : i < root = omega (arith, length-take root counts) in
+      found_here (used_once row) MisusedNode i root h
+      (none→fine (used_once row) MisusedNode i (λ j k. once j (omega arith) (ones j k)))
+      (ne_eqb (uses row i) 1 (λ e. other (as_counted i h ∙ e)))
+
+  -- and if every count is 1, no node is refused.
+  pub none_misused :
+      ((j : ℕ) → j < length before → get_or before j 0 ≡ 1) → lowest (used_once row) MisusedNode root ≡ Ok tt
+  none_misused ones =
+      none→fine (used_once row) MisusedNode root
+      (λ j h. once j h (ones j (omega (arith, length-take root counts, long))))

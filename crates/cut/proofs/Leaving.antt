@@ -1,27 +1,26 @@
 -- When a sound card's chart was laid and pruned in a room of 510 places, what is left of it stands at the root that
 -- pruning returned: the chart has at most 255 nodes, and pruning takes no more new places than that.
 -- Assumes nothing.
-use Prim.Native.Nat.{ℕ, ◌<◌, ◌≤◌}
+use Prim.Native.Nat.{ℕ, ◌≤◌}
 use mathlib.Core.Bool.{true}
 use mathlib.Core.List.{List}
 use mathlib.Core.Path.{◌≡◌, ap, sym, ◌∙◌}
 use native.Mathlib.Omega.{arith}
 use lib.ListN.{length}
+use Rattle.std.specs.Prelude.{Option, Some, None}
 use Rattle.chart_spec.specs.Chart.{size}
 use Rattle.chart_spec.specs.Executing.{evades, prune, chart_of}
 use Rattle.chart_spec.proofs.Shrinking.{pruned_costs_at_most_the_chart}
 use Rattle.card_spec.specs.Parts.{lifelines_of, messages_of}
 use Rattle.card_spec.specs.Nodes.{card_chart}
-use Rattle.card_spec.specs.Checking.{rule}
+use Rattle.number.specs.declared.Refusal.TheVariants.{NoLogLeft}
+use Rattle.number.specs.Refusals.{rule}
 use Rattle.card_spec.specs.Table.{Sound}
 use Rattle.card_spec.proofs.Telling.{sound→faultless}
 use Rattle.room_spec.specs.declared.Root.{Root}
-use Rattle.room_spec.specs.declared.Pruned.{Pruned}
-use Rattle.room_spec.specs.declared.Pruned.TheVariants.{Part, Nothing}
-use Rattle.room_spec.specs.Room.{chart_in, Table, Rooted}
+use Rattle.room_spec.specs.Room.{chart_in, Rooted, Stands}
 use Rattle.room_spec.specs.Building.{Prunes}
 use Rattle.room_spec.proofs.Apart.{table_rooted}
-use Rattle.room_lay.specs.declared.Laid.TheVariants.{Whole}
 use Rattle.room_lay.specs.Rooms.{taken, laying, laid_in}
 use Rattle.room_lay.proofs.Onward.{
   whole_keeps_the_length,
@@ -48,12 +47,12 @@ module _ (card : List ℕ) (sound : Sound card) where
 
   module _ (lifeline : ℕ) where
     -- When the chart was laid into a room of 510 places,
-    module _ (room : List ℕ) (long : length room ≡ 510) (root : Root) (laid : Whole root ≡ laying card room)
+    module _ (room : List ℕ) (long : length room ≡ 510) (root : Root) (laid : Some root ≡ laying card room)
         (full : List ℕ) (there : full ≡ laid_in card room) where
       usable : length room ≤ 16384
       usable = omega arith
 
-      pub asks_pruning : Table full root.used × Rooted full root.place × root.place < root.used
+      pub asks_pruning : Stands full root
       asks_pruning =
           rw there (
             whole_is_a_table card room sound usable root laid,
@@ -69,17 +68,17 @@ module _ (card : List ℕ) (sound : Sound card) where
 
       -- the result of pruning decides the cut's second test, 12,
       pub found_by_pruning :
-          (after : List ℕ) (pruned : Pruned)
+          (after : List ℕ) (pruned : Option Root)
           → Prunes full root.used (chart_in full root.place) lifeline after pruned
-          → rule 12 (evades (card_chart card) lifeline) ≡ finding_of pruned
-      found_by_pruning after (Part part) (evading, built) =
-          ap (rule 12) (sym (ap (λ c. evades c lifeline) whole_chart) ∙ evading)
-      found_by_pruning after Nothing (lost, keeps) =
-          ap (rule 12) (sym (ap (λ c. evades c lifeline) whole_chart) ∙ lost)
+          → rule NoLogLeft (evades (card_chart card) lifeline) ≡ finding_of pruned
+      found_by_pruning after (Some part) (evading, built) =
+          ap (rule NoLogLeft) (sym (ap (λ c. evades c lifeline) whole_chart) ∙ evading)
+      found_by_pruning after None (lost, keeps) =
+          ap (rule NoLogLeft) (sym (ap (λ c. evades c lifeline) whole_chart) ∙ lost)
 
       -- and what is left of the chart stands at the root that pruning returned.
       module _ (after : List ℕ) (part : Root)
-          (pruned : Prunes full root.used (chart_in full root.place) lifeline after (Part part)) where
+          (pruned : Prunes full root.used (chart_in full root.place) lifeline after (Some part)) where
         inside : part.used ≤ length after
         inside =
             let few = has_few_nodes card sound in

@@ -1,12 +1,12 @@
 -- A working definition, which nobody has to believe: the finding for a cut, from what pruning the card's chart
 -- returned.
 -- Assumes nothing.
-use Rattle.card_spec.specs.declared.Finding.{Finding}
-use Rattle.card_spec.specs.declared.Finding.TheVariants.{Fine, Refused}
-use Rattle.room_spec.specs.declared.Pruned.{Pruned}
-use Rattle.room_spec.specs.declared.Pruned.TheVariants.{Part, Nothing}
+use Rattle.std.specs.Prelude.{Option, Some, None, Result, Ok, Err}
+use Rattle.number.specs.declared.Refusal.{Refusal}
+use Rattle.number.specs.declared.Refusal.TheVariants.{NoLogLeft}
+use Rattle.room_spec.specs.declared.Root.{Root}
 
 -- "12 | cut: no log of the chart avoids the lifeline | 0" (01, Verdicts and numbers given).
-abbrev pub finding_of : Pruned → Finding
-finding_of (Part root) = Fine
-finding_of Nothing = Refused 12 0
+abbrev pub finding_of : Option Root → Result Unit Refusal
+finding_of (Some root) = Ok tt
+finding_of None = Err NoLogLeft

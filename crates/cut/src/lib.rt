@@ -5,24 +5,14 @@
 ghost use Rattle.std.specs.Prelude.{◌≡◌, ◌<◌, length};
 ghost use Rattle.card_spec.specs.Parts.{lifelines_of};
 ghost use Rattle.card_spec.specs.Table.{Sound};
-ghost use Rattle.cut_spec.specs.Cutting.{refused_at, cutting, out_after};
+ghost use Rattle.cut_spec.specs.Cutting.{asked, cutting, out_after};
 
 use cut_spec::CutAnswer;
 use node::Node;
-use room_spec::Pruned;
+use number::Refusal;
 
 // The most room that a cut takes: the places of the card's chart, and as many again for what pruning makes.
 const ROOM: usize = 2 * Node::NODES;
-
-fn refused(number: u32, place: u32) -> CutAnswer
-    ensures { result ≡ refused_at number place }
-{
-    CutAnswer {
-        number,
-        place,
-        length: 0,
-    }
-}
 
 // The cut of a sound card: its chart is laid and pruned in a room of the cut's own.
 fn cut_in(card: &[u8], lifeline: u32, room: &mut [u32], out: &mut [u8]) -> CutAnswer
@@ -31,22 +21,28 @@ fn cut_in(card: &[u8], lifeline: u32, room: &mut [u32], out: &mut [u8]) -> CutAn
         × out.new ≡ out_after card.now lifeline out.old }
 {
     let root = room_lay::lay_whole(card, room);
-    let pruned = room_prune::prune(room, root.place, lifeline, root.used);
-    let Pruned::Part(part) = pruned else {
-        return refused(number::NO_LOG_LEFT, 0);
+    let Some(part) = room_prune::prune(room, root, lifeline) else {
+        return CutAnswer::from(Refusal::NoLogLeft);
     };
     let length = write_card::card_bytes(room, part.place);
     if out.len() < length {
-        return refused(number::OUTPUT_TOO_SHORT, 0);
+        return CutAnswer::from(Refusal::OutputTooShort);
     }
-    let lifelines = card_parts::lifelines(card);
-    let messages = card_parts::messages(card);
-    write_card::write_card(room, part.place, lifelines, messages, out);
+    let counts = card_parts::counts(card);
+    write_card::write_card(room, part.place, counts, out);
     CutAnswer {
         number: number::OK,
         place: 0,
         length: length as u32,
     }
+}
+
+// What refuses a card or the lifeline to cut out of it, if anything does: 1 to 6, then 11.
+fn check(card: &[u8], lifeline: u32) -> Result<(), Refusal>
+    ensures { result ≡ asked card.now lifeline }
+{
+    card_check::pass(card)?;
+    Refusal::UndeclaredLifeline.unless(lifeline < card_parts::counts(card).lifelines)
 }
 
 // The cut of any bytes as a card. A refused cut leaves the output as found; any other writes its card to the first
@@ -55,14 +51,11 @@ pub fn cut(card: &[u8], lifeline: u32, out: &mut [u8]) -> CutAnswer
     ensures { result ≡ cutting card.now lifeline (length out.old)
         × out.new ≡ out_after card.now lifeline out.old }
 {
-    let checked = card_check::check(card);
-    let number = checked.number;
-    if number != number::OK {
-        return refused(number, checked.place);
+    match check(card, lifeline) {
+        Ok(()) => {
+            let mut room = [0u32; ROOM];
+            cut_in(card, lifeline, &mut room, out)
+        }
+        Err(refusal) => CutAnswer::from(refusal),
     }
-    if card_parts::lifelines(card) <= lifeline {
-        return refused(number::UNDECLARED_LIFELINE, 0);
-    }
-    let mut room = [0u32; ROOM];
-    cut_in(card, lifeline, &mut room, out)
 }

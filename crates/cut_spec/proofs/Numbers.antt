@@ -11,8 +11,8 @@ use lib.ListN.{length, take, drop, length-append, length-drop}
 use lib.Seq.{take-append_seam, drop-append_seam}
 use borrow.Author.Tests.{eq-eqb}
 use Rattle.chart_spec.proofs.Shrinking.{pruned_no_larger}
-use Rattle.card_spec.specs.declared.Finding.{Finding}
-use Rattle.card_spec.specs.declared.Finding.TheVariants.{Fine, Refused}
+use Rattle.std.specs.Prelude.{Result, Ok, Err}
+use Rattle.number.specs.declared.Refusal.{Refusal}
 use Rattle.card_spec.specs.Parts.{lifelines_of, messages_of, first_at, nodes_of}
 use Rattle.card_spec.specs.Note.{note_of}
 use Rattle.card_spec.specs.Checking.{checking}
@@ -92,10 +92,10 @@ cut_is_no_longer card lifeline s =
 
 -- What is returned and left, given what was found.
 refused_leaves :
-    (f : Finding) (bytes : ℕ) (card out : List ℕ) → (returned f bytes).number ≢ 0
+    (f : Result Unit Refusal) (bytes : ℕ) (card out : List ℕ) → (returned f bytes).number ≢ 0
     → ((returned f bytes).length ≡ 0) × (leaves f card out ≡ out)
-refused_leaves Fine bytes card out h = absurd (h refl)
-refused_leaves (Refused number place) bytes card out h = (refl, refl)
+refused_leaves (Ok u) bytes card out h = absurd (h refl)
+refused_leaves (Err refused) bytes card out h = (refl, refl)
 
 module _ (card : List ℕ) (lifeline : ℕ) (out : List ℕ) where
   abbrev given : CutAnswer

@@ -16,7 +16,10 @@ use Rattle.chart_spec.specs.Executing.{evades}
 use Rattle.chart_spec.proofs.Agreement.{evades_iff_some_published_log_avoids}
 use Rattle.card_spec.specs.Parts.{lifelines_of}
 use Rattle.card_spec.specs.Nodes.{card_chart}
-use Rattle.card_spec.specs.Checking.{checking, rule}
+use Rattle.number.specs.declared.Refusal.TheVariants.{NoLogLeft}
+use Rattle.number.specs.Refusals.{rule}
+use Rattle.card_spec.specs.Checking.{checking}
+use Rattle.card_spec.proofs.Answers.{refused_so_found}
 use Rattle.card_spec.specs.Table.{Sound}
 use Rattle.card_spec.proofs.Decided.{Decided, by_ltb, if_not, if_so}
 use Rattle.card_spec.proofs.Deciding.{same_lifelines, at_least_six}
@@ -106,7 +109,7 @@ module _ (card : List ℕ) (lifeline : ℕ) where
         Sound card → ¬ NotDeclared card lifeline → NeverAvoided card lifeline
         → Cuts card lifeline out (refused_at 12 0) out
     never_when sound d never =
-        never_avoided card lifeline out sound (declared sound d) (ap (rule 12) (if_so avoided_decided never))
+        never_avoided card lifeline out sound (declared sound d) (ap (rule NoLogLeft) (if_so avoided_decided never))
 
     undeclared_when : Sound card → NotDeclared card lifeline → Cuts card lifeline out (refused_at 11 0) out
     undeclared_when sound d = not_declared card lifeline out sound (undeclared sound d)
@@ -114,7 +117,8 @@ module _ (card : List ℕ) (lifeline : ℕ) where
     spoiled_when :
         (checking card).number ≢ 0
         → Cuts card lifeline out (refused_at (checking card).number (checking card).place) out
-    spoiled_when h = card_refused card lifeline out (checking card) refl h
+    spoiled_when h =
+        let (refused, found, is) = refused_so_found card h in rw is (card_refused card lifeline out refused found)
 
     -- What the table tells is the answer.
     pub cut_told→answer : {number place : ℕ} → CutTold card lifeline (length out) number place → Gives number place

@@ -1,14 +1,15 @@
 -- The answer to a cut, and the output afterwards.
 -- Assumes nothing.
-use Rattle.std.specs.Prelude.{ℕ, List, [], ◌∷◌, ◌++◌, ◌≡◌, ltb, leb, length, drop}
+use Rattle.std.specs.Prelude.{ℕ, List, [], ◌∷◌, ◌++◌, ◌≡◌, ltb, leb, length, drop, Result, Ok, Err}
 use Rattle.chart_spec.specs.Chart.{Chart}
 use Rattle.chart_spec.specs.Executing.{evades, prune, chart_of}
-use Rattle.card_spec.specs.declared.Finding.{Finding}
-use Rattle.card_spec.specs.declared.Finding.TheVariants.{Fine, Refused}
+use Rattle.number.specs.declared.Refusal.{Refusal}
+use Rattle.number.specs.declared.Refusal.TheVariants.{UndeclaredLifeline, NoLogLeft, OutputTooShort}
+use Rattle.number.specs.Refusals.{number_of, place_of, rule}
 use Rattle.card_spec.specs.Parts.{lifelines_of, messages_of}
 use Rattle.card_spec.specs.Nodes.{card_chart}
 use Rattle.card_spec.specs.Findings.{or_else}
-use Rattle.card_spec.specs.Checking.{rule, findings, first}
+use Rattle.card_spec.specs.Checking.{findings, first}
 use Rattle.write_spec.specs.Cards.{card_of}
 use Rattle.cut_spec.specs.declared.CutAnswer.{CutAnswer}
 
@@ -23,15 +24,20 @@ cut_card card lifeline = card_of (lifelines_of card) (messages_of card) (left_ov
 
 -- What refuses the cut of a sound card into an output of that length, in this order: 11, 12, 13
 -- (01, Verdicts and numbers given).
-abbrev pub of_the_cut : List ℕ → ℕ → ℕ → List Finding
+abbrev pub of_the_cut : List ℕ → ℕ → ℕ → List (Result Unit Refusal)
 of_the_cut card lifeline long =
-    rule 11 (ltb lifeline (lifelines_of card))
-    ∷ rule 12 (evades (card_chart card) lifeline)
-    ∷ rule 13 (leb (length (cut_card card lifeline)) long)
+    rule UndeclaredLifeline (ltb lifeline (lifelines_of card))
+    ∷ rule NoLogLeft (evades (card_chart card) lifeline)
+    ∷ rule OutputTooShort (leb (length (cut_card card lifeline)) long)
     ∷ []
 
+-- What refuses a card or the lifeline to cut out of it: "1 to 6, 11" (01, Verdicts and numbers given).
+abbrev pub asked : List ℕ → ℕ → Result Unit Refusal
+asked card lifeline =
+    or_else (first (findings card)) (rule UndeclaredLifeline (ltb lifeline (lifelines_of card)))
+
 -- What refuses a cut: "1 to 6, 11, 12, 13" (01, Verdicts and numbers given).
-abbrev pub refusal : List ℕ → ℕ → ℕ → Finding
+abbrev pub refusal : List ℕ → ℕ → ℕ → Result Unit Refusal
 refusal card lifeline long = or_else (first (findings card)) (first (of_the_cut card lifeline long))
 
 -- A refused cut "returns number and place by the table and length 0" (01, Verdicts and numbers given).
@@ -39,9 +45,9 @@ abbrev pub refused_at : ℕ → ℕ → CutAnswer
 refused_at number place = record { number = number; place = place; length = 0 }
 
 -- The answer, given what was found: for a card of so many bytes "number 0, place 0 and its length".
-abbrev pub returned : Finding → ℕ → CutAnswer
-returned Fine bytes = record { number = 0; place = 0; length = bytes }
-returned (Refused number place) bytes = refused_at number place
+abbrev pub returned : Result Unit Refusal → ℕ → CutAnswer
+returned (Ok u) bytes = record { number = 0; place = 0; length = bytes }
+returned (Err refusal) bytes = refused_at (number_of refusal) (place_of refusal)
 
 -- The answer to a card, a lifeline and an output of that length.
 unfoldable pub cutting : List ℕ → ℕ → ℕ → CutAnswer
@@ -49,9 +55,9 @@ cutting card lifeline long = returned (refusal card lifeline long) (length (cut_
 
 -- The output, given what was found: "Output bytes beyond it stay. A refused cut writes nothing" (01, Verdicts and
 -- numbers given).
-abbrev pub leaves : Finding → List ℕ → List ℕ → List ℕ
-leaves Fine bytes out = bytes ++ drop (length bytes) out
-leaves (Refused number place) bytes out = out
+abbrev pub leaves : Result Unit Refusal → List ℕ → List ℕ → List ℕ
+leaves (Ok u) bytes out = bytes ++ drop (length bytes) out
+leaves (Err refusal) bytes out = out
 
 -- The output after a cut.
 unfoldable pub out_after : List ℕ → ℕ → List ℕ → List ℕ

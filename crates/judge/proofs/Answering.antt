@@ -14,9 +14,8 @@ use Rattle.card_spec.specs.Table.{Sound}
 use Rattle.log_spec.specs.Bytes.{log_of, actions_of}
 use Rattle.log_spec.proofs.Actions.{as_many_actions}
 use Rattle.room_spec.specs.declared.Root.{Root}
-use Rattle.room_spec.specs.Room.{chart_in, Table, Rooted}
-use Rattle.room_lay.specs.declared.Laid.{Laid}
-use Rattle.room_lay.specs.declared.Laid.TheVariants.{Whole, TooLittle}
+use Rattle.room_spec.specs.Room.{chart_in, Stands}
+use Rattle.std.specs.Prelude.{Option, Some, None}
 use Rattle.room_lay.specs.Rooms.{laying, laid_in, finding_of}
 use Rattle.room_lay.proofs.Onward.{
   too_little_exceeds,
@@ -51,21 +50,21 @@ module _ (card log room : List ℕ) (allowance : ℕ) (sound : Sound card) where
       let c = card_chart card in
       told (length t) (walk allowance (length room) t c (size c) 0 (size c))
 
-  pub returned_by_laying : length room ≤ 16384 → (laid : Laid) → laid ≡ laying card room
+  pub returned_by_laying : length room ≤ 16384 → (laid : Option Root) → laid ≡ laying card room
       → judged_of (answer (card_chart card) (log_of log) allowance (length room)) ≡ returned (finding_of laid) searched
-  returned_by_laying usable TooLittle laid =
+  returned_by_laying usable None laid =
       ap judged_of
       (exceeding_answer (card_chart card) (log_of log) allowance (length room)
       (too_little_exceeds card room sound laid))
-  returned_by_laying usable (Whole root) laid =
+  returned_by_laying usable (Some root) laid =
       ap judged_of
       (fitting_answer (card_chart card) (log_of log) allowance (length room)
       (whole_fits card room sound usable root laid))
 
-  module _ (usable : length room ≤ 16384) (root : Root) (laid : Whole root ≡ laying card room) (after : List ℕ)
+  module _ (usable : length room ≤ 16384) (root : Root) (laid : Some root ≡ laying card room) (after : List ℕ)
       (there : after ≡ laid_in card room) where
     -- The chart was laid: it can be searched,
-    pub laid_stands : Table after root.used × Rooted after root.place × root.place < root.used
+    pub laid_stands : Stands after root
     laid_stands =
         rw there (
           whole_is_a_table card room sound usable root laid,
@@ -74,7 +73,9 @@ module _ (card log room : List ℕ) (allowance : ℕ) (sound : Sound card) where
         )
 
     -- and what is told of the search is the answer.
-    pub search_answers : (later : List ℕ) (r : Ended) → Searches after (log_of log) root allowance root.used later r
+    pub search_answers :
+        (later : List ℕ) (r : Ended)
+        → Searches after (log_of log) root (record { left = allowance; places = root.used }) later r
         → told (actions_of log) (ending_of allowance r) ≡ answer (card_chart card) (log_of log) allowance (length room)
     search_answers later r searched =
         let all : 0 + allowance ≡ allowance = omega arith in

@@ -7,12 +7,12 @@ ghost use Rattle.chart_spec.specs.Lending.{answer};
 ghost use Rattle.card_spec.specs.Nodes.{card_chart};
 ghost use Rattle.card_spec.specs.Table.{Sound};
 ghost use Rattle.log_spec.specs.Bytes.{log_of};
-ghost use Rattle.judge_spec.specs.Judgment.{usable, judged_of, judgment, room_after};
+ghost use Rattle.judge_spec.specs.Judgment.{usable, refusal, judged_of, judgment, room_after};
 
-use card_spec::Finding;
 use judge_spec::Judged;
 use node::Node;
-use room_lay::Laid;
+use number::Refusal;
+use search_spec::Tally;
 
 // The answer to a sound card and log, in a room that is usable as a whole.
 fn answer_in(card: &[u8], log: &[u8], allowance: u32, room: &mut [u32]) -> Judged
@@ -20,16 +20,16 @@ fn answer_in(card: &[u8], log: &[u8], allowance: u32, room: &mut [u32]) -> Judge
     ensures { result ≡ judged_of (answer (card_chart card.now) (log_of log.now) allowance
         (length room.old)) }
 {
-    let laid = room_lay::lay(card, room);
-    let Laid::Whole(root) = laid else {
-        return judge_answer::refused(number::ROOM_EXCEEDED, 0);
+    let Some(root) = room_lay::lay(card, room) else {
+        return Judged::from(Refusal::RoomExceeded);
     };
-    let ended = search::search(log, room, root, allowance, root.used);
-    judge_answer::tell(
-        ended,
-        allowance,
-        (log.len() / log_bytes::ACTION_BYTES) as u32,
-    )
+    let tally = Tally {
+        left: allowance,
+        places: root.used,
+    };
+    let ended = search::search(log, room, root, tally);
+    let actions = (log.len() / log_bytes::ACTION_BYTES) as u32;
+    judge_answer::tell(ended, allowance, actions)
 }
 
 // The answer to a sound card and log; the room is cleared.
@@ -48,11 +48,15 @@ fn judge_sound(card: &[u8], log: &[u8], allowance: u32, room: &mut [u32]) -> Jud
 fn usable(long: usize) -> usize
     ensures { result ≡ usable long }
 {
-    if long < Node::PLACES {
-        long
-    } else {
-        Node::PLACES
-    }
+    long.min(Node::PLACES)
+}
+
+// What refuses a card or a log, if anything does.
+fn check(card: &[u8], log: &[u8]) -> Result<(), Refusal>
+    ensures { result ≡ refusal card.now log.now }
+{
+    card_check::pass(card)?;
+    log_bytes::check(log, card_parts::counts(card))
 }
 
 // The judgment of any bytes as a card and a log. A refusal leaves the room as found; any other answer leaves its usable
@@ -61,15 +65,11 @@ pub fn judge(card: &[u8], log: &[u8], allowance: u32, room: &mut [u32]) -> Judge
     ensures { result ≡ judgment card.now log.now allowance (length room.old)
         × room.new ≡ room_after card.now log.now room.old }
 {
-    let checked = card_check::check(card);
-    let number = checked.number;
-    if number != number::OK {
-        return judge_answer::refused(number, checked.place);
+    match check(card, log) {
+        Ok(()) => {
+            let end = usable(room.len());
+            judge_sound(card, log, allowance, &mut room[0..end])
+        }
+        Err(refusal) => Judged::from(refusal),
     }
-    let finding = log_bytes::check(log, card_parts::lifelines(card), card_parts::messages(card));
-    if let Finding::Refused { number, place } = finding {
-        return judge_answer::refused(number, place);
-    }
-    let end = usable(room.len());
-    judge_sound(card, log, allowance, &mut room[0..end])
 }

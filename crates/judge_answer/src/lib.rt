@@ -1,26 +1,14 @@
-// The answer to a refusal, and to a search that has ended (01, "Verdicts and numbers given"). Both are defined in
+// The answer to a search that has ended (01, "Verdicts and numbers given"). It is defined in
 // judge_spec/specs/Judgment.antt; chart_spec/specs/Lending.antt says what is told of an ending.
 #![tactic(auto)]
 
 ghost use Rattle.std.specs.Prelude.{◌≡◌, ◌≤◌, ltb};
 ghost use Rattle.chart_spec.specs.Lending.{unaccepted, told};
-ghost use Rattle.search_spec.specs.Ending.{ending_of, left_of};
-ghost use Rattle.judge_spec.specs.Judgment.{judged_of, refused_at};
+ghost use Rattle.search_spec.specs.Ending.{ending_of};
+ghost use Rattle.judge_spec.specs.Judgment.{judged_of};
 
 use judge_spec::Judged;
-use search_spec::Ended;
-
-// A refusal has no figures, and neither has a chart that exceeds the room.
-pub fn refused(number: u32, place: u32) -> Judged
-    ensures { result ≡ refused_at number place }
-{
-    Judged {
-        number,
-        place,
-        steps: 0,
-        places: 0,
-    }
-}
+use search_spec::{Ended, Outcome};
 
 // The number of a log that was not accepted: it deviates if no path got through the whole log, else it is short.
 fn unaccepted(deepest: u32, actions: u32) -> u32
@@ -36,35 +24,18 @@ fn unaccepted(deepest: u32, actions: u32) -> u32
 // The answer to a search that began with this allowance, for a log of so many actions. The steps are what the search
 // has taken of the allowance.
 pub fn tell(ended: Ended, allowance: u32, actions: u32) -> Judged
-    requires { left_of ended ≤ allowance }
+    requires { ended.tally.left ≤ allowance }
     ensures { result ≡ judged_of (told actions (ending_of allowance ended)) }
 {
-    match ended {
-        Ended::Found { left, places } => Judged {
-            number: number::ACCEPTED,
-            place: actions,
-            steps: allowance - left,
-            places,
-        },
-        Ended::Failed {
-            deepest,
-            left,
-            places,
-        } => Judged {
-            number: unaccepted(deepest, actions),
-            place: deepest,
-            steps: allowance - left,
-            places,
-        },
-        Ended::Stopped {
-            number,
-            left,
-            places,
-        } => Judged {
-            number,
-            place: 0,
-            steps: allowance - left,
-            places,
-        },
+    let (number, place) = match ended.outcome {
+        Outcome::Found => (number::ACCEPTED, actions),
+        Outcome::Failed { deepest } => (unaccepted(deepest, actions), deepest),
+        Outcome::Stopped(refusal) => (refusal.number(), 0),
+    };
+    Judged {
+        number,
+        place,
+        steps: allowance - ended.tally.left,
+        places: ended.tally.places,
     }
 }

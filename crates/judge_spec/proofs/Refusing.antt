@@ -1,25 +1,27 @@
--- What was found decides the judgment and the room afterwards: the card was refused; or the log was; or neither, and
--- the answer is that of the chart and the log.
+-- What was found decides the judgment and the room afterwards: the card or the log was refused; or neither, and the
+-- answer is that of the chart and the log.
 -- Assumes nothing.
-use Prim.Native.Nat.{ℕ}
+use Prim.Native.Nat.{ℕ, ◌≤◌}
 use mathlib.Core.List.{List, ◌++◌}
-use mathlib.Core.Logic.{◌≢◌}
 use mathlib.Core.Path.{◌≡◌, refl, ap, ◌∙◌}
 use native.Mathlib.Omega.{arith}
 use lib.ListN.{length, take, drop, replicate, length-take}
 use Rattle.chart_spec.specs.Lending.{Answer, answer}
-use Rattle.card_spec.specs.declared.Checked.{Checked}
-use Rattle.card_spec.specs.declared.Finding.TheVariants.{Fine, Refused}
+use Rattle.std.specs.Prelude.{Ok, Err}
+use Rattle.number.specs.declared.Refusal.{Refusal}
+use Rattle.number.specs.Refusals.{number_of, place_of}
 use Rattle.card_spec.specs.Parts.{lifelines_of, messages_of}
 use Rattle.card_spec.specs.Nodes.{card_chart}
-use Rattle.card_spec.specs.Checking.{checking}
+use Rattle.card_spec.specs.Checking.{findings, first}
 use Rattle.card_spec.specs.Table.{Sound}
-use Rattle.card_spec.proofs.Answers.{refused_so_found}
+use Rattle.card_spec.proofs.Lowest.{or_fine→}
+use Rattle.card_spec.proofs.Promises.{nothing_refuses_exactly_sound_cards}
 use Rattle.card_spec.proofs.Telling.{sound→nothing_found}
 use Rattle.log_spec.specs.Bytes.{log_of}
 use Rattle.log_spec.specs.Refusing.{refusing}
+use Rattle.log_spec.proofs.Rules.{fine_is_in_rule, in_rule_is_short}
 use Rattle.judge_spec.specs.declared.Judged.{Judged}
-use Rattle.judge_spec.specs.Judgment.{usable, judged_of, refused_at, judgment, room_after, Judges}
+use Rattle.judge_spec.specs.Judgment.{usable, refusal, judged_of, refused_at, judgment, room_after, Judges}
 
 zeroed : (room part : List ℕ) (end n : ℕ) → end ≡ n → part ≡ replicate n 0
     → part ++ drop end room ≡ replicate n 0 ++ drop n room
@@ -30,28 +32,40 @@ module _ (card log : List ℕ) (allowance : ℕ) (room : List ℕ) where
   abbrev answered_by_the_chart : Answer
   answered_by_the_chart = answer (card_chart card) (log_of log) allowance (usable (length room))
 
-  -- The card was refused: 1 to 6.
-  pub card_refused : (checked : Checked) → checked ≡ checking card → checked.number ≢ 0
-      → Judges card log allowance room (refused_at checked.number checked.place) room
+  -- The card or the log was refused: 1 to 8.
+  pub refusal_judges : (refused : Refusal) → refusal card log ≡ Err refused
+      → Judges card log allowance room (refused_at (number_of refused) (place_of refused)) room
   unfolding judgment room_after
-  card_refused checked e h = rw (refused_so_found card (rw e at h), e) (refl, refl)
+  refusal_judges refused e = rw e (refl, refl)
 
-  module _ (sound : Sound card) where
-    -- The log was refused: 7 or 8.
-    pub log_refused : (number place : ℕ) → refusing (lifelines_of card) (messages_of card) log ≡ Refused number place
-        → Judges card log allowance room (refused_at number place) room
-    unfolding judgment room_after
-    log_refused number place e = rw (sound→nothing_found card sound, e) (refl, refl)
+  pub card_refused : (refused : Refusal) → first (findings card) ≡ Err refused → refusal card log ≡ Err refused
+  card_refused refused e = rw e
 
-    -- Neither was refused: the judgment used the usable part of the room and cleared it.
-    pub both_sound : (r : Judged) (end : ℕ) (part : List ℕ) → refusing (lifelines_of card) (messages_of card) log ≡ Fine
-        → end ≡ usable (length room)
-        → r ≡ judged_of (answer (card_chart card) (log_of log) allowance (length (take end room)))
-        → part ≡ replicate (length (take end room)) 0 → Judges card log allowance room r (part ++ drop end room)
-    unfolding judgment room_after
-    both_sound r end part e is answered zeros =
-        let long : length (take end room) ≡ usable (length room) = omega (arith, length-take end room) in
-        rw (sound→nothing_found card sound, e) (
-          answered ∙ ap (λ n. judged_of (answer (card_chart card) (log_of log) allowance n)) long,
-          zeroed room part end (usable (length room)) is (rw long at zeros),
-        )
+  pub log_refused : (refused : Refusal) → Sound card
+      → refusing (lifelines_of card) (messages_of card) log ≡ Err refused → refusal card log ≡ Err refused
+  log_refused refused sound e = rw (sound→nothing_found card sound, e)
+
+  -- Neither was refused: the card is sound, and the log short;
+  pub passed→sound : refusal card log ≡ Ok tt → Sound card
+  passed→sound e =
+      (nothing_refuses_exactly_sound_cards card).0
+      (or_fine→ (first (findings card)) (refusing (lifelines_of card) (messages_of card) log) e).0
+
+  pub passed→short : refusal card log ≡ Ok tt → length log ≤ 256
+  passed→short e =
+      in_rule_is_short log
+      (fine_is_in_rule (lifelines_of card) (messages_of card) log
+      (or_fine→ (first (findings card)) (refusing (lifelines_of card) (messages_of card) log) e).1)
+
+  -- and the judgment used the usable part of the room and cleared it.
+  pub both_sound : (r : Judged) (end : ℕ) (part : List ℕ) → refusal card log ≡ Ok tt
+      → end ≡ usable (length room)
+      → r ≡ judged_of (answer (card_chart card) (log_of log) allowance (length (take end room)))
+      → part ≡ replicate (length (take end room)) 0 → Judges card log allowance room r (part ++ drop end room)
+  unfolding judgment room_after
+  both_sound r end part e is answered zeros =
+      let long : length (take end room) ≡ usable (length room) = omega (arith, length-take end room) in
+      rw e (
+        answered ∙ ap (λ n. judged_of (answer (card_chart card) (log_of log) allowance n)) long,
+        zeroed room part end (usable (length room)) is (rw long at zeros),
+      )

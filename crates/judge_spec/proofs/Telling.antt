@@ -4,13 +4,12 @@
 use Prim.Native.Nat.{ℕ, ◌/◌, ◌%◌, ◌<◌, ◌≤◌}
 use mathlib.Core.Bool.{Bool, true, false}
 use mathlib.Core.List.{List}
-use mathlib.Core.Logic.{◌≢◌}
-use mathlib.Core.Path.{◌≡◌, refl, sym, ◌∙◌}
+use mathlib.Core.Path.{◌≡◌, refl, sym, ap, ◌∙◌}
 use native.Mathlib.Decide.{ℕ_discrete}
-use native.Mathlib.Omega.{arith}
 use lib.ListN.{length}
 use Rattle.chart_spec.specs.Lending.{answer}
-use Rattle.card_spec.specs.declared.Finding.TheVariants.{Fine, Refused}
+use Rattle.std.specs.Prelude.{Ok, Err}
+use Rattle.number.specs.declared.Refusal.TheVariants.{LogLength, UndeclaredAction}
 use Rattle.card_spec.specs.Parts.{lifelines_of, messages_of}
 use Rattle.card_spec.specs.Nodes.{card_chart}
 use Rattle.card_spec.specs.Checking.{checking}
@@ -20,17 +19,16 @@ use Rattle.card_spec.proofs.Deciding.{at_least_six, same_lifelines, same_message
 use Rattle.card_spec.proofs.LowestAt.{Looked, look, no_fault→fine, lowest→refused}
 use Rattle.card_spec.proofs.LowestAt.Looked.{nowhere, somewhere}
 use Rattle.card_spec.proofs.Promises.{given_exactly_as_the_table_tells, zero_exactly_for_sound_cards}
+use Rattle.card_spec.proofs.Answers.{refused_so_found}
 use Rattle.card_spec.proofs.Telling.{sound→nothing_found}
+use Rattle.number.specs.Refusals.{number_of, place_of}
 use Rattle.log_spec.specs.Bytes.{log_of, action_at}
 use Rattle.log_spec.specs.Refusing.{in_rule, declared, undeclared, refusing}
 use Rattle.judge_spec.specs.Judgment.{usable, judged_of, refused_at, judgment, cleared, room_after, Judges}
 use Rattle.judge_spec.specs.Table as table
 use Rattle.judge_spec.specs.Table.{OddOrLong, UndeclaredAt, SoundBoth}
 use Rattle.judge_spec.specs.Table.Refused.{by_the_card, seven, eight}
-use Rattle.judge_spec.proofs.Refusing.{card_refused, log_refused}
-
-eight_is_real : ◌≢◌ {A = ℕ} 8 0
-eight_is_real e = omega arith
+use Rattle.judge_spec.proofs.Refusing.{refusal_judges, card_refused, log_refused}
 
 -- 7
 rule_decided : (log : List ℕ) → Decided (in_rule log) (OddOrLong log)
@@ -51,7 +49,7 @@ module _ (card log : List ℕ) where
         (by_both (by_ltb (action_at log i).line (lifelines_of card)) (λ line.
         by_ltb (action_at log i).message (messages_of card)))
 
-    found_seven : OddOrLong log → refusing (lifelines_of card) (messages_of card) log ≡ Refused 7 0
+    found_seven : OddOrLong log → refusing (lifelines_of card) (messages_of card) log ≡ Err LogLength
     found_seven h = rw (if_so (rule_decided log) h)
 
     module _ (whole : ¬ OddOrLong log) where
@@ -60,16 +58,16 @@ module _ (card log : List ℕ) where
       found_undeclared = rw (if_not (rule_decided log) whole)
 
       found_eight : (i : ℕ) → Lowest (UndeclaredAt card log) (length log / 2) i
-          → refusing (lifelines_of card) (messages_of card) log ≡ Refused 8 i
+          → refusing (lifelines_of card) (messages_of card) log ≡ Err (UndeclaredAction i)
       found_eight i l =
           found_undeclared
-          ∙ lowest→refused 8 eight_is_real is_declared (UndeclaredAt card log) (length log / 2) i each_decided l
+          ∙ lowest→refused UndeclaredAction is_declared (UndeclaredAt card log) (length log / 2) i each_decided l
 
   -- Nothing refuses a sound card and log.
-  pub nothing_found : SoundBoth card log → refusing (lifelines_of card) (messages_of card) log ≡ Fine
+  pub nothing_found : SoundBoth card log → refusing (lifelines_of card) (messages_of card) log ≡ Ok tt
   nothing_found s =
       found_undeclared s.sound s.whole
-      ∙ no_fault→fine 8 eight_is_real (is_declared s.sound) (UndeclaredAt card log) (length log / 2)
+      ∙ no_fault→fine UndeclaredAction (is_declared s.sound) (UndeclaredAt card log) (length log / 2)
       (each_decided s.sound) s.declared
 
   -- One of the two: refused, with its number and place, or sound.
@@ -78,7 +76,7 @@ module _ (card log : List ℕ) where
     is_sound : SoundBoth card log → LookedAt
 
   by_eight : (sound : Sound card) (whole : ¬ OddOrLong log)
-      → Looked 8 eight_is_real (is_declared sound) (UndeclaredAt card log) (length log / 2) → LookedAt
+      → Looked UndeclaredAction (is_declared sound) (UndeclaredAt card log) (length log / 2) → LookedAt
   by_eight sound whole (nowhere e none) = is_sound (record { sound = sound; whole = whole; declared = none })
   by_eight sound whole (somewhere i e l) = is_refused 8 i (eight sound whole l)
 
@@ -86,7 +84,7 @@ module _ (card log : List ℕ) where
   by_seven sound false e = is_refused 7 0 (seven sound ((rule_decided log).fails e))
   by_seven sound true e =
       by_eight sound ((rule_decided log).passes e)
-      (look 8 eight_is_real (is_declared sound) (UndeclaredAt card log) (length log / 2) (each_decided sound))
+      (look UndeclaredAction (is_declared sound) (UndeclaredAt card log) (length log / 2) (each_decided sound))
 
   by_the_number : Dec ((checking card).number ≡ 0) → LookedAt
   by_the_number (yes e) = by_seven ((zero_exactly_for_sound_cards card).0 e) (in_rule log) refl
@@ -104,12 +102,19 @@ module _ (card log : List ℕ) where
     -- Refused: the number and place, no figures, and the room as found.
     pub refused_judges : {number place : ℕ} → table.Refused card log number place
         → Judges card log allowance room (refused_at number place) room
-    refused_judges (by_the_card h told) =
-        let (number, place) = (given_exactly_as_the_table_tells card _ _).1 told in
-        rw (number, place) at (card_refused card log allowance room (checking card) refl (λ e. h (sym number ∙ e)))
-    refused_judges (seven sound h) = log_refused card log allowance room sound 7 0 (found_seven sound h)
+    refused_judges (by_the_card {number} {place} h told) =
+        let (n, p) = (given_exactly_as_the_table_tells card _ _).1 told in
+        let (refused, found, is) = refused_so_found card (λ e. h (sym n ∙ e)) in
+        let number_is : number_of refused ≡ number = sym (ap (λ a. a.number) is) ∙ n in
+        let place_is : place_of refused ≡ place = sym (ap (λ a. a.place) is) ∙ p in
+        rw (number_is, place_is) at
+        (refusal_judges card log allowance room refused (card_refused card log allowance room refused found))
+    refused_judges (seven sound h) =
+        refusal_judges card log allowance room LogLength
+        (log_refused card log allowance room LogLength sound (found_seven sound h))
     refused_judges (eight {i = i} sound whole l) =
-        log_refused card log allowance room sound 8 i (found_eight sound whole i l)
+        refusal_judges card log allowance room (UndeclaredAction i)
+        (log_refused card log allowance room (UndeclaredAction i) sound (found_eight sound whole i l))
 
     -- Sound: the answer to the chart and the log, and the usable room zeroed.
     pub sound_judges : SoundBoth card log

@@ -16,8 +16,8 @@ use lib.ListN.{
   get_or-append,
 }
 use lib.Seq.{get_or-append-add, get_or-drop}
-use Rattle.card_spec.specs.declared.Finding.{Finding}
-use Rattle.card_spec.specs.declared.Finding.TheVariants.{Fine, Refused}
+use Rattle.std.specs.Prelude.{Result, Ok, Err}
+use Rattle.number.specs.declared.Refusal.{Refusal}
 use Rattle.judge_spec.specs.Judgment.{usable, refusal, cleared, leaves, room_after}
 
 module _ (room : List ℕ) where
@@ -48,13 +48,13 @@ module _ (room : List ℕ) where
       length-append zeros (drop n room)
       ∙ omega (arith, as_many_zeros, length-drop n room)
 
-  left_beyond : (f : Finding) (i none : ℕ) → n ≤ i → get_or (leaves f room) i none ≡ get_or room i none
-  left_beyond Fine i none h = cleared_beyond i none h
-  left_beyond (Refused number place) i none h = refl
+  left_beyond : (f : Result Unit Refusal) (i none : ℕ) → n ≤ i → get_or (leaves f room) i none ≡ get_or room i none
+  left_beyond (Ok u) i none h = cleared_beyond i none h
+  left_beyond (Err refused) i none h = refl
 
-  left_length : (f : Finding) → length (leaves f room) ≡ length room
-  left_length Fine = cleared_length
-  left_length (Refused number place) = refl
+  left_length : (f : Result Unit Refusal) → length (leaves f room) ≡ length room
+  left_length (Ok u) = cleared_length
+  left_length (Err refused) = refl
 
 module _ (card log room : List ℕ) where
   pub kept_beyond : (i none : ℕ) → usable (length room) ≤ i

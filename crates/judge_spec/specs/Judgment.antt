@@ -1,9 +1,9 @@
 -- The judgment of a card and a log under an allowance in a room, and the room afterwards.
 -- Assumes nothing.
-use Rattle.std.specs.Prelude.{ℕ, min, List, ◌++◌, ◌≡◌, length, drop, replicate}
+use Rattle.std.specs.Prelude.{ℕ, min, List, ◌++◌, ◌≡◌, length, drop, replicate, Result, Ok, Err}
 use Rattle.chart_spec.specs.Lending.{Answer, answer}
-use Rattle.card_spec.specs.declared.Finding.{Finding}
-use Rattle.card_spec.specs.declared.Finding.TheVariants.{Fine, Refused}
+use Rattle.number.specs.declared.Refusal.{Refusal}
+use Rattle.number.specs.Refusals.{number_of, place_of}
 use Rattle.card_spec.specs.Parts.{lifelines_of, messages_of}
 use Rattle.card_spec.specs.Nodes.{card_chart}
 use Rattle.card_spec.specs.Findings.{or_else}
@@ -17,7 +17,7 @@ abbrev pub usable : ℕ → ℕ
 usable long = min long 16384
 
 -- What refuses a card and a log: 1 to 8 as numbered (01, Verdicts and numbers given).
-abbrev pub refusal : List ℕ → List ℕ → Finding
+abbrev pub refusal : List ℕ → List ℕ → Result Unit Refusal
 refusal card log = or_else (first (findings card)) (refusing (lifelines_of card) (messages_of card) log)
 
 -- An answer, as it is returned.
@@ -29,9 +29,9 @@ abbrev pub refused_at : ℕ → ℕ → Judged
 refused_at number place = record { number = number; place = place; steps = 0; places = 0 }
 
 -- What is returned, given what was found.
-abbrev pub returned : Finding → Answer → Judged
-returned Fine a = judged_of a
-returned (Refused number place) a = refused_at number place
+abbrev pub returned : Result Unit Refusal → Answer → Judged
+returned (Ok u) a = judged_of a
+returned (Err refusal) a = refused_at (number_of refusal) (place_of refusal)
 
 -- The judgment of a card and a log, with an allowance and a room of that length.
 unfoldable pub judgment : List ℕ → List ℕ → ℕ → ℕ → Judged
@@ -44,9 +44,9 @@ cleared room = replicate (usable (length room)) 0 ++ drop (usable (length room))
 
 -- "With 1 to 8 .. the room is as found. .. with these and all verdicts the usable room is zeroed" (01, Verdicts and
 -- numbers given). What was found decides between the two.
-abbrev pub leaves : Finding → List ℕ → List ℕ
-leaves Fine room = cleared room
-leaves (Refused number place) room = room
+abbrev pub leaves : Result Unit Refusal → List ℕ → List ℕ
+leaves (Ok u) room = cleared room
+leaves (Err refusal) room = room
 
 -- The room after a judgment.
 unfoldable pub room_after : List ℕ → List ℕ → List ℕ → List ℕ

@@ -7,7 +7,8 @@ ghost use Rattle.room_spec.specs.Building.{action_of};
 ghost use Rattle.log_spec.specs.Bytes.{acts, actions_of, action_at};
 ghost use Rattle.log_spec.specs.Refusing.{in_rule, declared, undeclared, refusing};
 
-use card_spec::Finding;
+use card_spec::Counts;
+use number::Refusal;
 use room_spec::Action;
 
 // How many bytes an action has, and how many a log has at most: 128 actions.
@@ -15,14 +16,15 @@ pub const ACTION_BYTES: usize = 2;
 
 pub const MOST_BYTES: usize = 256;
 
-// An action by its two bytes: lifeline times 2, plus 0 for emission or 1 for reception; then the message.
+// An action by its two bytes: lifeline times 2, plus 0 for emission or 1 for reception; then the message. No `From`: an
+// action of the crate `room_spec` is not always these bytes.
 pub fn action_of(first: u8, second: u8) -> Action
     ensures { action_of result ≡ acts first second }
 {
     Action {
-        lifeline: number::wide(first / 2),
+        lifeline: u32::from(first / 2),
         receives: first % 2 == 1,
-        message: number::wide(second),
+        message: u32::from(second),
     }
 }
 
@@ -43,41 +45,29 @@ fn is_in_rule(log: &[u8]) -> bool
 }
 
 // Whether an action's lifeline and message are declared.
-fn is_declared(action: Action, lifelines: u32, messages: u32) -> bool
-    ensures { result ≡ declared lifelines messages (action_of action) }
+fn is_declared(action: Action, counts: Counts) -> bool
+    ensures { result ≡ declared counts.lifelines counts.messages (action_of action) }
 {
-    action.lifeline < lifelines && action.message < messages
+    action.lifeline < counts.lifelines && action.message < counts.messages
 }
 
-// The lowest action with a lifeline or message not declared.
-fn lowest_undeclared(log: &[u8], lifelines: u32, messages: u32) -> Finding
+// Refuses the lowest action with a lifeline or message not declared.
+fn lowest_undeclared(log: &[u8], counts: Counts) -> Result<(), Refusal>
     requires { length log.now ≤ 256 }
-    ensures { result ≡ undeclared lifelines messages log.now }
+    ensures { result ≡ undeclared counts.lifelines counts.messages log.now }
 {
-    let count = log.len() / ACTION_BYTES;
-    let mut i = 0;
-    while i < count {
-        let action = action_at(log, i);
-        if !is_declared(action, lifelines, messages) {
-            return Finding::Refused {
-                number: number::UNDECLARED_ACTION,
-                place: i as u32,
-            };
+    for i in 0..log.len() / ACTION_BYTES {
+        if !is_declared(action_at(log, i), counts) {
+            return Err(Refusal::UndeclaredAction { action: i as u32 });
         }
-        i += 1;
     }
-    Finding::Fine
+    Ok(())
 }
 
 // What refuses a log, given the card's numbers of lifelines and messages.
-pub fn check(log: &[u8], lifelines: u32, messages: u32) -> Finding
-    ensures { result ≡ refusing lifelines messages log.now }
+pub fn check(log: &[u8], counts: Counts) -> Result<(), Refusal>
+    ensures { result ≡ refusing counts.lifelines counts.messages log.now }
 {
-    if !is_in_rule(log) {
-        return Finding::Refused {
-            number: number::LOG_LENGTH,
-            place: 0,
-        };
-    }
-    lowest_undeclared(log, lifelines, messages)
+    Refusal::LogLength.unless(is_in_rule(log))?;
+    lowest_undeclared(log, counts)
 }

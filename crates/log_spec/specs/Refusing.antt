@@ -1,10 +1,11 @@
 -- What refuses a log: numbers 7 and 8 of the table in 01, "Verdicts and numbers given".
 -- Assumes nothing.
-use Rattle.std.specs.Prelude.{ℕ, ◌%◌, Bool, cond, ◌&&◌, List, eqb, ltb, leb, length}
+use Rattle.std.specs.Prelude.{ℕ, ◌%◌, Bool, ◌&&◌, List, eqb, ltb, leb, length, Result}
 use Rattle.chart_spec.specs.Action.{Action}
-use Rattle.card_spec.specs.declared.Finding.{Finding}
+use Rattle.number.specs.declared.Refusal.{Refusal}
+use Rattle.number.specs.declared.Refusal.TheVariants.{LogLength, UndeclaredAction}
+use Rattle.number.specs.Refusals.{rule}
 use Rattle.card_spec.specs.Findings.{lowest, or_else}
-use Rattle.card_spec.specs.Checking.{rule}
 use Rattle.log_spec.specs.Bytes.{actions_of, action_at}
 
 -- 7: the length is even, and at most 256 bytes.
@@ -15,14 +16,14 @@ in_rule log = eqb (length log % 2) 0 && leb (length log) 256
 abbrev pub declared : ℕ → ℕ → Action → Bool
 declared lifelines messages a = ltb a.line lifelines && ltb a.message messages
 
--- The number of action i's fault, 0 if it has none.
-abbrev pub undeclared_of : ℕ → ℕ → List ℕ → ℕ → ℕ
-undeclared_of lifelines messages log i = cond (declared lifelines messages (action_at log i)) 0 8
+-- Action i of the log is declared.
+abbrev pub declared_at : ℕ → ℕ → List ℕ → ℕ → Bool
+declared_at lifelines messages log i = declared lifelines messages (action_at log i)
 
 -- 8, over all actions: the lowest that is not declared.
-abbrev pub undeclared : ℕ → ℕ → List ℕ → Finding
-undeclared lifelines messages log = lowest (undeclared_of lifelines messages log) (actions_of log)
+abbrev pub undeclared : ℕ → ℕ → List ℕ → Result Unit Refusal
+undeclared lifelines messages log = lowest (declared_at lifelines messages log) UndeclaredAction (actions_of log)
 
 -- What is found in a log, with so many lifelines and messages declared: 7, then 8 (01, Verdicts and numbers given).
-abbrev pub refusing : ℕ → ℕ → List ℕ → Finding
-refusing lifelines messages log = or_else (rule 7 (in_rule log)) (undeclared lifelines messages log)
+abbrev pub refusing : ℕ → ℕ → List ℕ → Result Unit Refusal
+refusing lifelines messages log = or_else (rule LogLength (in_rule log)) (undeclared lifelines messages log)

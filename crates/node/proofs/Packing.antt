@@ -1,25 +1,11 @@
--- A node packed into a place and unpacked is the same node, and a place unpacked and packed is the same number. Both
--- rest on one law, for every width: shifting a number left by `width` bits and putting another's lowest bits in by a
--- mask joins the two. The rest is division with remainder.
+-- A node packed into a place and unpacked is the same node, and a place unpacked and packed is the same number: by
+-- division with remainder.
 -- Assumes nothing.
-use Prim.Native.Nat.{ℕ, ◌+◌, ◌-◌, ◌*◌, ◌%◌, ◌^◌, ◌<◌, ◌≤◌}
+use Prim.Native.Nat.{ℕ, ◌^◌, ◌<◌}
 use mathlib.Core.Path.{◌≡◌}
 use native.Mathlib.Omega.{arith}
-use lib.Bits.{bit_and, bit_or, and_mask, mask_lt, or_shifted}
-use lib.Pow.{shl_exact}
 use Rattle.node.specs.declared.Node.{Node}
-use Rattle.node.specs.Place.{joined, word_of, node_of, Fitting}
-
--- A shift and a mask join two numbers, if nothing is shifted out of the word.
-pub shift_and_mask_join :
-    (bits width word high low : ℕ) → high < 2 ^ bits → bits + width ≤ word
-    → bit_or (high * 2 ^ width % 2 ^ word) (bit_and low (2 ^ width - 1)) ≡ joined width high low
-shift_and_mask_join bits width word high low small fits =
-    rw (
-      shl_exact {a = high} bits width word small fits,
-      or_shifted high width (bit_and low (2 ^ width - 1)) (mask_lt low width),
-      and_mask low width,
-    )
+use Rattle.node.specs.Place.{word_of, node_of, Fitting}
 
 -- Unpacking what was packed gives the same three numbers.
 pub unpacks_to_the_same_node : (n : Node) → Fitting n → node_of (word_of n) ≡ n

@@ -7,6 +7,8 @@ ghost use Rattle.std.specs.Prelude.{◌≡◌};
 ghost use Rattle.node.specs.Place.{word_of, node_of};
 
 // The kind, and two numbers whose meaning depends on the kind: lifeline and message, or the numbers of the children.
+// The kind is a number and no enum: 01 ("The shape of each place") asks for constants, and for one decision over the
+// kind number, with ranges.
 #[derive(Clone, Copy)]
 pub struct Node {
     pub kind: u32,
@@ -66,6 +68,12 @@ impl Node {
     const NUMBER_MASK: u32 = 0x3FFF;
 
     const NUMBER_BITS: u32 = 14;
+
+    pub fn new(kind: u32, a: u32, b: u32) -> Node
+        ensures { result ≡ record { kind = kind; a = a; b = b } }
+    {
+        Node { kind, a, b }
+    }
 
     pub fn pack(self) -> u32
         ensures { result ≡ word_of self }

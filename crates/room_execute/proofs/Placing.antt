@@ -7,6 +7,7 @@ use mathlib.Core.Path.{◌≡◌, ap, sym, subst, ◌∙◌}
 use native.Mathlib.Omega.{arith}
 use lib.Dec.{eqb}
 use lib.ListN.{length, get_or}
+use Rattle.std.specs.Prelude.{Result, Ok, Err}
 use Rattle.chart_spec.specs.Action.{Action}
 use Rattle.chart_spec.specs.Chart.{Loop}
 use Rattle.chart_spec.specs.Chart.Chart.{empty, act, loop}
@@ -17,9 +18,8 @@ use Rattle.node_spec.specs.Kind.{Pair, kind_of}
 use Rattle.node_spec.specs.Kind.Kind.{pairs, loops}
 use Rattle.node_spec.proofs.Ranges.{three_to_six_are_pairs}
 use Rattle.room_spec.specs.declared.Root.{Root}
-use Rattle.room_spec.specs.declared.Executed.{Executed}
-use Rattle.room_spec.specs.declared.Executed.TheVariants.{FollowUp, Missing}
-use Rattle.room_spec.specs.Room.{node_in, chart_in, Table, Rooted, Kept}
+use Rattle.room_spec.specs.declared.Missing.{Missing}
+use Rattle.room_spec.specs.Room.{node_in, chart_in, Table, Rooted, Stands, Kept}
 use Rattle.room_spec.specs.Building.{Held, Builds, Follows}
 use Rattle.room_spec.proofs.Standing.{kept_self, kept_node, kept_chart, kept_table, kept_then}
 use Rattle.room_spec.proofs.Apart.{
@@ -76,20 +76,21 @@ module _ (work : Working) (k : ℕ) (a : Action) where
   abbrev follows_at : ℕ → List Made
   follows_at p = follows (chart_in before p) a
 
-  none_at_an_empty : chart_in before place ≡ empty → Follows before used (follows_at place) k before (Missing k)
+  none_at_an_empty :
+      chart_in before place ≡ empty → Follows before used (follows_at place) k before (Err (record { more = k }))
   unfolding follows
   none_at_an_empty e =
-      subst (λ c. Follows before used (follows c a) k before (Missing k)) (sym e)
+      subst (λ c. Follows before used (follows c a) k before (Err (record { more = k }))) (sym e)
       (none_to_follow before used k before (kept_self used before))
 
-  pub at_an_empty : n.kind ≡ 0 → Follows before used (follows_at place) k before (Missing k)
+  pub at_an_empty : n.kind ≡ 0 → Follows before used (follows_at place) k before (Err (record { more = k }))
   at_an_empty e = none_at_an_empty (empty_here r e)
 
-  pub at_the_unknown : 11 ≤ n.kind → Follows before used (follows_at place) k before (Missing k)
+  pub at_the_unknown : 11 ≤ n.kind → Follows before used (follows_at place) k before (Err (record { more = k }))
   at_the_unknown e = none_at_an_empty (unknown_here r e)
 
   pub at_an_action :
-      (after : List ℕ) (answer : Executed) → 1 ≤ n.kind → n.kind ≤ 2
+      (after : List ℕ) (answer : Result Root Missing) → 1 ≤ n.kind → n.kind ≤ 2
       → Follows before used (occurrences n a) k after answer → Follows before used (follows_at place) k after answer
   at_an_action after answer low high given =
       let (receives, is, acts) = action_here r low high in
@@ -99,7 +100,7 @@ module _ (work : Working) (k : ℕ) (a : Action) where
 
   -- A pair.
   module _ (low : 3 ≤ n.kind) (high : n.kind ≤ 6) where
-    pub asks_left : (n.a < place) × (Table before used × Rooted before n.a × n.a < used)
+    pub asks_left : (n.a < place) × Stands before (record { place = n.a; used = used })
     asks_left = let (l, there) = left_lower r low high in (l, (table, there, omega arith))
 
     right_there : (n.b < place) × Rooted before n.b
@@ -121,7 +122,7 @@ module _ (work : Working) (k : ℕ) (a : Action) where
         ∙ follows_of_a_pair q (chart_in before n.a) (chart_in before n.b) a
 
     -- A follow-up on its left side.
-    module _ (middle : List ℕ) (x : Root) (on_left : Follows before used (follows_at n.a) k middle (FollowUp x))
+    module _ (middle : List ℕ) (x : Root) (on_left : Follows before used (follows_at n.a) k middle (Ok x))
       where
         more : used ≤ x.used
         more = builds_more on_left.1 table.counted
@@ -133,7 +134,7 @@ module _ (work : Working) (k : ℕ) (a : Action) where
             (after : List ℕ) (y : Root)
             → ((q : Pair) → kind_of n.kind ≡ pairs q
             → Carries middle x (beside_right q (chart_in middle n.b)) after y)
-            → Follows before used (follows_at place) k after (FollowUp y)
+            → Follows before used (follows_at place) k after (Ok y)
         on_its_left after y carries =
             let (q, is) = three_to_six_are_pairs n.kind low high in
             let (b, there) = right_there in
@@ -144,12 +145,13 @@ module _ (work : Working) (k : ℕ) (a : Action) where
             let carried : Builds before used (replaced q m) after y
             = subst (λ c. Builds before used (beside_right q c m) after y) same
             (carries q is before used m table built) in
-            subst (λ xs. Follows before used xs k after (FollowUp y)) (sym (follows_there q is))
+            subst (λ xs. Follows before used xs k after (Ok y)) (sym (follows_there q is))
             (in_the_first before used (lefts q) k (rights q) after y
             (changed_follow_up before used (follows_at n.a) k (replaced q) after y h carried))
 
-    -- No follow-up on its left side, and `more` occurrences still to be passed over.
-    module _ (middle : List ℕ) (more : ℕ) (on_left : Follows before used (follows_at n.a) k middle (Missing more))
+    -- No follow-up on its left side, and so many occurrences still to be passed over.
+    module _ (middle : List ℕ) (missing : Missing)
+        (on_left : Follows before used (follows_at n.a) k middle (Err missing))
       where
         middle_table : Table middle used
         middle_table = kept_table used before middle on_left.1 table
@@ -158,13 +160,13 @@ module _ (work : Working) (k : ℕ) (a : Action) where
         inside_middle p h there =
             table_rooted middle used p middle_table (omega arith) (omega (arith, there.inside, on_left.1.long))
 
-        pub asks_right : (n.b < place) × (Table middle used × Rooted middle n.b × n.b < used)
+        pub asks_right : (n.b < place) × Stands middle (record { place = n.b; used = used })
         asks_right = let (b, there) = right_there in (b, (middle_table, inside_middle n.b b there, omega arith))
 
-        module _ (room : List ℕ) (right : Executed)
-            (at_right : Follows middle used (follows (chart_in middle n.b) a) more room right) where
+        module _ (room : List ℕ) (right : Result Root Missing)
+            (at_right : Follows middle used (follows (chart_in middle n.b) a) missing.more room right) where
           keeps_right : Kept used middle room
-          keeps_right = answer_keeps middle used (follows (chart_in middle n.b) a) more room right at_right
+          keeps_right = answer_keeps middle used (follows (chart_in middle n.b) a) missing.more room right at_right
 
           pub asks_to_turn : Rooted room n.a × Beside room n.a right
           asks_to_turn =
@@ -172,14 +174,14 @@ module _ (work : Working) (k : ℕ) (a : Action) where
               let inside : n.a < length room = omega (arith, there.inside, on_left.1.long, keeps_right.long) in (
                 table_rooted room used n.a (kept_table used middle room keeps_right middle_table) (omega arith)
                     inside,
-                stands_beside middle used n.a (follows (chart_in middle n.b) a) more room right middle_table
+                stands_beside middle used n.a (follows (chart_in middle n.b) a) missing.more room right middle_table
                     (omega arith) at_right,
               )
 
           pub on_its_right :
-              (after : List ℕ) (answer : Executed)
+              (after : List ℕ) (answer : Result Root Missing)
               → ((q : Pair) → kind_of n.kind ≡ pairs q
-              → Turns room more right (beside_left q (chart_in room n.a) a.line) after answer)
+              → Turns room missing.more right (beside_left q (chart_in room n.a) a.line) after answer)
               → Follows before used (follows_at place) k after answer
           on_its_right after answer turns =
               let (q, is) = three_to_six_are_pairs n.kind low high in
@@ -192,15 +194,15 @@ module _ (work : Working) (k : ℕ) (a : Action) where
               let same_right : chart_in middle n.b ≡ chart_in before n.b
               = kept_chart used before middle on_left.1 n.b (omega arith) b_there.inside in
               let turned = turns q is middle used (follows (chart_in middle n.b) a) middle_table at_right in
-              let there : Follows middle used (rights q) more after answer
+              let there : Follows middle used (rights q) missing.more after answer
               = rw (← same_left, ← same_right) turned in
               subst (λ xs. Follows before used xs k after answer) (sym (follows_there q is))
-              (in_the_second before used (lefts q) k (rights q) middle after more answer table.counted
-              (changed_missing before used (follows_at n.a) k (replaced q) middle more on_left) there)
+              (in_the_second before used (lefts q) k (rights q) middle after missing answer table.counted
+              (changed_missing before used (follows_at n.a) k (replaced q) middle missing on_left) there)
 
   -- A loop.
   module _ (low : 7 ≤ n.kind) (high : n.kind ≤ 10) where
-    pub asks_body : (n.a < place) × (Table before used × Rooted before n.a × n.a < used)
+    pub asks_body : (n.a < place) × Stands before (record { place = n.a; used = used })
     asks_body = let (b, there) = body_lower r low high in (b, (table, there, omega arith))
 
     rounds_there :
@@ -210,15 +212,15 @@ module _ (work : Working) (k : ℕ) (a : Action) where
     rounds_there l e = ap (λ c. follows c a) e
 
     pub no_round :
-        (middle : List ℕ) (more : ℕ) → Follows before used (follows_at n.a) k middle (Missing more)
-        → Follows before used (follows_at place) k middle (Missing more)
-    no_round middle more on_body =
+        (middle : List ℕ) (missing : Missing) → Follows before used (follows_at n.a) k middle (Err missing)
+        → Follows before used (follows_at place) k middle (Err missing)
+    no_round middle missing on_body =
         let (l, is, whole) = loop_here r low high in
-        subst (λ xs. Follows before used xs k middle (Missing more)) (sym (rounds_there l whole))
-        (changed_missing before used (follows_at n.a) k (after_round l (chart_in before n.a) a.line) middle more
+        subst (λ xs. Follows before used xs k middle (Err missing)) (sym (rounds_there l whole))
+        (changed_missing before used (follows_at n.a) k (after_round l (chart_in before n.a) a.line) middle missing
         on_body)
 
-    module _ (middle : List ℕ) (x : Root) (on_body : Follows before used (follows_at n.a) k middle (FollowUp x))
+    module _ (middle : List ℕ) (x : Root) (on_body : Follows before used (follows_at n.a) k middle (Ok x))
       where
         built : Builds before used (get_or (follows_at n.a) k new_empty) middle x
         built = on_body.1
@@ -233,7 +235,7 @@ module _ (work : Working) (k : ℕ) (a : Action) where
             (after : List ℕ) (y : Root)
             → ((l : Loop) → kind_of (node_in middle place).kind ≡ loops l
             → Carries middle x (after_round l (chart_in middle (node_in middle place).a) a.line) after y)
-            → Follows before used (follows_at place) k after (FollowUp y)
+            → Follows before used (follows_at place) k after (Ok y)
         one_round after y carries =
             let (l, is, whole) = loop_here r low high in
             let (b, there) = body_lower r low high in
@@ -246,6 +248,6 @@ module _ (work : Working) (k : ℕ) (a : Action) where
             let carried : Builds before used (after_round l (chart_in before n.a) a.line m) after y
             = subst (λ c. Builds before used (after_round l c a.line m) after y) same
             (carries l (ap (λ m. kind_of m.kind) node ∙ is) before used m table built) in
-            subst (λ xs. Follows before used xs k after (FollowUp y)) (sym (rounds_there l whole))
+            subst (λ xs. Follows before used xs k after (Ok y)) (sym (rounds_there l whole))
             (changed_follow_up before used (follows_at n.a) k (after_round l (chart_in before n.a) a.line) after y
             on_body.0 carried)

@@ -2,6 +2,7 @@
 -- at its root, and as many places are in use as the chart has nodes. It is laid exactly if these do not exceed the
 -- room.
 -- Assumes nothing.
+use Rattle.std.specs.Prelude.{Option, Some, None}
 use Prim.Native.Nat.{ℕ, ◌-◌, ◌<◌, ◌≤◌}
 use mathlib.Core.Bool.{Bool, true, false, cond}
 use mathlib.Core.List.{List}
@@ -18,43 +19,41 @@ use Rattle.card_spec.proofs.Charted.{as_many_nodes}
 use Rattle.room_spec.specs.declared.Root.{Root}
 use Rattle.room_spec.specs.Room.{chart_in, Table, Rooted}
 use Rattle.room_spec.proofs.Apart.{table_rooted}
-use Rattle.room_lay.specs.declared.Laid.{Laid}
-use Rattle.room_lay.specs.declared.Laid.TheVariants.{Whole, TooLittle}
 use Rattle.room_lay.specs.Rooms.{placed, taken, exceeds, laying, laid_in}
 use Rattle.room_lay.proofs.Placed.{placed_length, placed_table, placed_chart}
 
-abbrev IsWhole : Laid → Type 0
-IsWhole (Whole root) = Unit
-IsWhole TooLittle = ⊥
+abbrev root_in : Option Root → Root
+root_in (Some root) = root
+root_in None = record { place = 0; used = 0 }
 
-abbrev root_in : Laid → Root
-root_in (Whole root) = root
-root_in TooLittle = record { place = 0; used = 0 }
+abbrev IsSome : Option Root → Type 0
+IsSome (Some root) = Unit
+IsSome None = ⊥
 
 whole_if_it_does_not_exceed :
-    (b : Bool) (root there : Root) → Whole root ≡ cond b TooLittle (Whole there) → (b ≡ false) × (root ≡ there)
-whole_if_it_does_not_exceed true root there e = absurd (subst IsWhole e tt)
+    (b : Bool) (root there : Root) → Some root ≡ cond b None (Some there) → (b ≡ false) × (root ≡ there)
+whole_if_it_does_not_exceed true root there e = absurd (subst IsSome e tt)
 whole_if_it_does_not_exceed false root there e = (refl, ap root_in e)
 
-too_little_if_it_exceeds : (b : Bool) (there : Root) → TooLittle ≡ cond b TooLittle (Whole there) → b ≡ true
-too_little_if_it_exceeds true there e = refl
-too_little_if_it_exceeds false there e = absurd (subst IsWhole (sym e) tt)
+none_if_it_exceeds : (b : Bool) (there : Root) → None ≡ cond b None (Some there) → b ≡ true
+none_if_it_exceeds true there e = refl
+none_if_it_exceeds false there e = absurd (subst IsSome (sym e) tt)
 
 -- Laying takes as many places as the chart has nodes.
 pub taken_by_the_chart : (card : List ℕ) → Sound card → taken card ≡ size (card_chart card)
 taken_by_the_chart card sound =
     sym (as_many_nodes (nodes_of card) (sound→faultless card sound) (sound→once card sound))
 
--- The answer is too little room only if the chart exceeds the room.
-pub too_little_exceeds : (card room : List ℕ) → Sound card → TooLittle ≡ laying card room
+-- There is no root only if the chart exceeds the room.
+pub too_little_exceeds : (card room : List ℕ) → Sound card → None ≡ laying card room
     → length room < size (card_chart card)
 too_little_exceeds card room sound told =
-    let over = too_little_if_it_exceeds (exceeds card room) (record { place = taken card - 1; used = taken card }) told
+    let over = none_if_it_exceeds (exceeds card room) (record { place = taken card - 1; used = taken card }) told
     in
     rw (taken_by_the_chart card sound) at (ltb-true (length room) (taken card) over)
 
 module _ (card room : List ℕ) (sound : Sound card) (usable : length room ≤ 16384) (root : Root)
-    (laid : Whole root ≡ laying card room) where
+    (laid : Some root ≡ laying card room) where
   decided : (exceeds card room ≡ false) × (root ≡ record { place = taken card - 1; used = taken card })
   decided =
       whole_if_it_does_not_exceed (exceeds card room) root (record { place = taken card - 1; used = taken card }) laid

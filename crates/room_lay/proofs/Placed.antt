@@ -1,6 +1,7 @@
 -- Each node of a sound card fits into a place. So what is laid into a room is the card's row of nodes, and the chart at
 -- its root is the card's chart.
 -- Assumes nothing.
+use Rattle.std.specs.Prelude.{Some, None}
 use Prim.Native.Nat.{ℕ, zero, suc, ◌+◌, ◌-◌, ◌<◌, ◌≤◌}
 use mathlib.Core.Bool.{true}
 use mathlib.Core.List.{List, [], ◌∷◌, ◌++◌, map, map-append}
@@ -32,7 +33,6 @@ use Rattle.room_spec.specs.Room.{nodes_in, node_in, chart_in, Table}
 use Rattle.room_spec.specs.declared.Root.{Root}
 use Rattle.room_spec.specs.Building.{added, root_at}
 use Rattle.room_spec.proofs.Adding.{root_inside}
-use Rattle.room_lay.specs.declared.Laid.TheVariants.{Whole, TooLittle}
 use Rattle.room_lay.specs.Rooms.{placed, taken, laying, laid_in}
 
 fits : (n : Node) → Known (kind_of n.kind) → n.a < 16384 → n.b < 16384 → Fitting n
@@ -147,7 +147,7 @@ module _ (card : List ℕ) (sound : Sound card) where
 
 -- The two answers: too little room, and the whole chart.
 pub too_little :
-    (card room : List ℕ) → length room < taken card → (TooLittle ≡ laying card room) × (room ≡ laid_in card room)
+    (card room : List ℕ) → length room < taken card → (None ≡ laying card room) × (room ≡ laid_in card room)
 too_little card room h =
     let short = lt-ltb (length room) (taken card) h in
     (rw short, rw short)
@@ -156,7 +156,7 @@ module _ (card room nodes : List ℕ) (theirs : nodes ≡ nodes_of card) (i : �
     (so_far : now ≡ placed nodes i room) where
   pub whole :
       (root : Root) → i ≡ taken card → taken card ≤ length room → root ≡ record { place = i - 1; used = i }
-      → (Whole root ≡ laying card room) × (now ≡ laid_in card room)
+      → (Some root ≡ laying card room) × (now ≡ laid_in card room)
   whole root all enough e =
       let long = le-ltb (length room) (taken card) enough in
       (rw (long, e, all), rw long (so_far ∙ rw (theirs, all)))

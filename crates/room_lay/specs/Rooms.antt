@@ -1,14 +1,13 @@
 -- Working definitions, which nobody has to believe: a card's chart laid into a room, one place for each node, in the
 -- card's own order (01, How a log is executed, Places).
 -- Assumes nothing.
-use Rattle.std.specs.Prelude.{ℕ, ◌-◌, Bool, cond, List, map, ◌++◌, ltb, length, drop}
+use Rattle.std.specs.Prelude.{ℕ, ◌-◌, Bool, cond, List, Option, Some, None, map, ◌++◌, ltb, length, drop, Result, Ok, Err}
 use Rattle.node.specs.Place.{word_of}
-use Rattle.card_spec.specs.declared.Finding.{Finding}
-use Rattle.card_spec.specs.declared.Finding.TheVariants.{Fine, Refused}
+use Rattle.number.specs.declared.Refusal.{Refusal}
+use Rattle.number.specs.declared.Refusal.TheVariants.{RoomExceeded}
 use Rattle.card_spec.specs.Parts.{nodes_of}
 use Rattle.card_spec.specs.Nodes.{count_of, row_to}
-use Rattle.room_lay.specs.declared.Laid.{Laid}
-use Rattle.room_lay.specs.declared.Laid.TheVariants.{Whole, TooLittle}
+use Rattle.room_spec.specs.declared.Root.{Root}
 
 -- The first n nodes in the first n places; beyond them the room is as it was.
 abbrev pub placed : List ℕ → ℕ → List ℕ → List ℕ
@@ -23,8 +22,8 @@ abbrev pub exceeds : List ℕ → List ℕ → Bool
 exceeds card room = ltb (length room) (taken card)
 
 -- What laying returns: the root in the last of the places that the chart takes, unless the chart exceeds the room.
-abbrev pub laying : List ℕ → List ℕ → Laid
-laying card room = cond (exceeds card room) TooLittle (Whole (record { place = taken card - 1; used = taken card }))
+abbrev pub laying : List ℕ → List ℕ → Option Root
+laying card room = cond (exceeds card room) None (Some (record { place = taken card - 1; used = taken card }))
 
 -- The room afterwards; a room that the chart exceeds is left as it was.
 abbrev pub laid_in : List ℕ → List ℕ → List ℕ
@@ -32,6 +31,6 @@ laid_in card room = cond (exceeds card room) room (placed (nodes_of card) (taken
 
 -- What laying finds: "10 | the chart .. exceeds the usable room | 0" (01, Verdicts and numbers given). It decides what
 -- is returned; but unlike with 1 to 8, the usable room is zeroed.
-abbrev pub finding_of : Laid → Finding
-finding_of (Whole root) = Fine
-finding_of TooLittle = Refused 10 0
+abbrev pub finding_of : Option Root → Result Unit Refusal
+finding_of (Some root) = Ok tt
+finding_of None = Err RoomExceeded

@@ -8,6 +8,7 @@ use mathlib.Core.Path.{◌≡◌, refl, ap, sym, subst, ◌∙◌}
 use native.Mathlib.Omega.{arith}
 use borrow.Author.Tests.{eq-eqb, ne_eqb}
 use lib.ListN.{length}
+use Rattle.std.specs.Prelude.{Option}
 use Rattle.chart_spec.specs.Chart.{Chart, Loop}
 use Rattle.chart_spec.specs.Chart.Order.{strict, seq, par}
 use Rattle.chart_spec.specs.Chart.Loop.{each, head}
@@ -21,8 +22,7 @@ use Rattle.node_spec.specs.Kind.Kind.{pairs, loops}
 use Rattle.node_spec.proofs.Ranges.{strict_is_three, seq_is_four, par_is_five, weak_is_nine}
 use Rattle.node_spec.proofs.Numbering.{kind_has_its_number, one_loop}
 use Rattle.room_spec.specs.declared.Root.{Root}
-use Rattle.room_spec.specs.declared.Pruned.{Pruned}
-use Rattle.room_spec.specs.Room.{chart_in, Table, Rooted}
+use Rattle.room_spec.specs.Room.{chart_in, Table, Rooted, Stands}
 use Rattle.room_spec.specs.Building.{added, root_at, Held, Builds, Prunes}
 use Rattle.room_spec.proofs.Standing.{kept_chart}
 use Rattle.room_spec.proofs.Apart.{Reading, table_rooted, loop_of_that_kind, body_lower}
@@ -87,8 +87,30 @@ module _ (room : List ℕ) (place kind : ℕ) (x : Root) (l : Loop) (b : Chart) 
           → after_round k b d m ≡ new_pair seq (prune (loop k b) d) (begun k b m)
       by k e {m} = rw e
 
--- The loop at a place, when its body has become the part x.
-module _ (r : Reading) (d : ℕ) (x : Root) (held : Held r.room x) (below : r.place < x.used) where
+-- The loop at a place, when its body has become the part x by an action on a lifeline.
+pub record Going : Type 0 where
+  pub reading : Reading
+  pub lifeline : ℕ
+  pub x : Root
+  pub held : Held reading.room x
+  pub below : reading.place < x.used
+
+module _ (going : Going) where
+  abbrev r : Reading
+  r = going.reading
+
+  abbrev d : ℕ
+  d = going.lifeline
+
+  abbrev x : Root
+  x = going.x
+
+  held : Held r.room x
+  held = going.held
+
+  below : r.place < x.used
+  below = going.below
+
   abbrev room : List ℕ
   room = r.room
 
@@ -129,7 +151,7 @@ module _ (r : Reading) (d : ℕ) (x : Root) (held : Held r.room x) (below : r.pl
     body_there : (node.a < place) × Rooted room node.a
     body_there = body_lower r (omega arith) (omega arith)
 
-    pub asks_to_prune : Table begun_in begun_at.used × Rooted begun_in node.a × node.a < begun_at.used
+    pub asks_to_prune : Stands begun_in (record { place = node.a; used = begun_at.used })
     asks_to_prune =
         let (a, there) = body_there in
         let table = whole_round.held.table in
@@ -137,12 +159,12 @@ module _ (r : Reading) (d : ℕ) (x : Root) (held : Held r.room x) (below : r.pl
         let inside : node.a < length begun_in = omega (arith, there.inside, whole_round.kept.long) in
         (table, table_rooted begun_in begun_at.used node.a table (omega arith) inside, omega arith)
 
-    module _ (pruned : List ℕ) (left : Pruned)
+    module _ (pruned : List ℕ) (left : Option Root)
         (on_body : Prunes begun_in begun_at.used (chart_in begun_in node.a) d pruned left) where
       pub pruned_table : Table pruned (above left begun_at.used)
       pruned_table =
-          prunes_table begun_in begun_at.used (chart_in begun_in node.a) d pruned left whole_round.held.table
-          on_body
+          prunes_table begun_in begun_at.used (chart_in begun_in node.a) d pruned left begun_at.used (omega arith)
+          whole_round.held.table on_body
 
       abbrev front_in : List ℕ
       front_in = loop_in pruned node.kind left begun_at.used

@@ -36,12 +36,13 @@ pub fn after_round(room: &mut [u32], place: u32, lifeline: u32, x: Root) -> Root
         room.new result }
 {
     let node = room_places::read(room, place);
-    let kind = node.kind;
-    let begun = room_places::add(room, between_rounds(kind), x.place, place, x.used);
-    if kind != Node::WEAK_LOOP {
+    let round = Node::new(between_rounds(node.kind), x.place, place);
+    let begun = room_places::add(room, round, x.used);
+    if node.kind != Node::WEAK_LOOP {
         return begun;
     }
-    let body = room_prune::prune(room, node.a, lifeline, begun.used);
-    let front = room_prune::loop_of(room, kind, body, begun.used);
-    room_places::add(room, Node::SEQ, front.place, begun.place, front.used)
+    let body = room_prune::prune(room, begun.at(node.a), lifeline);
+    let front = room_prune::loop_of(room, node.kind, body, begun.used);
+    let whole = Node::new(Node::SEQ, front.place, begun.place);
+    room_places::add(room, whole, front.used)
 }

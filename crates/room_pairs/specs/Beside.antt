@@ -1,14 +1,14 @@
 -- Working definitions, which nobody has to believe: the follow-ups of a pair, from the follow-ups of its sides.
 -- proofs/Pairing.antt shows that they make up `follows`.
 -- Assumes nothing.
-use Rattle.std.specs.Prelude.{ℕ, Bool, false, List, eqb}
+use Rattle.std.specs.Prelude.{ℕ, Bool, false, List, Result, Ok, Err, eqb}
 use Rattle.chart_spec.specs.Chart.{Chart}
 use Rattle.chart_spec.specs.Executing.{Made, on_right}
 use Rattle.chart_spec.specs.Executing.Made.{kept, new_pair}
 use Rattle.node_spec.specs.Kind.{Pair}
 use Rattle.node_spec.specs.Kind.Pair.{composed, choice}
-use Rattle.room_spec.specs.declared.Executed.{Executed}
-use Rattle.room_spec.specs.declared.Executed.TheVariants.{FollowUp, Missing}
+use Rattle.room_spec.specs.declared.Root.{Root}
+use Rattle.room_spec.specs.declared.Missing.{Missing}
 
 -- What a pair with right side r becomes when its left side becomes x: x replaces the left side; of an alt only x
 -- remains.
@@ -22,6 +22,6 @@ beside_left (composed o) l d xs = on_right o l d xs
 beside_left choice l d xs = xs
 
 -- Whether the answer says that there is no occurrence: as many are to be passed over as before.
-abbrev pub none_of : Executed → ℕ → Bool
-none_of (FollowUp x) k = false
-none_of (Missing more) k = eqb more k
+abbrev pub none_of : Result Root Missing → ℕ → Bool
+none_of (Ok x) k = false
+none_of (Err missing) k = eqb missing.more k

@@ -19,18 +19,12 @@ pub fn read(room: &[u32], place: u32) -> Node
 }
 
 // Adds a node in the first place that is not in use. A full room stays as it is, and is counted as exceeded.
-pub fn add(room: &mut [u32], kind: u32, a: u32, b: u32, used: u32) -> Root
+pub fn add(room: &mut [u32], node: Node, used: u32) -> Root
     requires { Table room.old used }
-    ensures { result ≡ root_at room.old used
-        × room.new ≡ added room.old used (record { kind = kind; a = a; b = b }) }
+    ensures { result ≡ root_at room.old used × room.new ≡ added room.old used node }
 {
     let at = used as usize;
     if at < room.len() {
-        let node = Node {
-            kind: kind,
-            a: a,
-            b: b,
-        };
         room[at] = node.pack();
         return Root {
             place: used,
@@ -47,9 +41,5 @@ pub fn add(room: &mut [u32], kind: u32, a: u32, b: u32, used: u32) -> Root
 pub fn clear(room: &mut [u32])
     ensures { room.new ≡ replicate (length room.old) 0 }
 {
-    let mut i = 0;
-    while i < room.len() {
-        room[i] = 0;
-        i += 1;
-    }
+    room.fill(0);
 }

@@ -20,10 +20,9 @@ use Rattle.node_spec.specs.Kind.{kind_of}
 use Rattle.node_spec.specs.Kind.Pair.{composed, choice}
 use Rattle.node_spec.specs.Kind.Kind.{pairs, loops}
 use Rattle.node_spec.proofs.Ranges.{six_is_the_choice}
+use Rattle.std.specs.Prelude.{Option, Some, None}
 use Rattle.room_spec.specs.declared.Root.{Root}
-use Rattle.room_spec.specs.declared.Pruned.{Pruned}
-use Rattle.room_spec.specs.declared.Pruned.TheVariants.{Part, Nothing}
-use Rattle.room_spec.specs.Room.{chart_in, Table, Rooted, Kept}
+use Rattle.room_spec.specs.Room.{chart_in, Table, Rooted, Stands}
 use Rattle.room_spec.specs.Building.{Builds, Prunes}
 use Rattle.room_spec.proofs.Standing.{kept_self, kept_chart, kept_then, kept_table, table_less}
 use Rattle.room_spec.proofs.Apart.{
@@ -53,36 +52,25 @@ use Rattle.room_spec.proofs.Adding.{
 use Rattle.room_prune.specs.Sides.{above, pair_of, pair_in, loop_of, loop_in}
 
 module _ (before : List ℕ) (used : ℕ) (c : Chart) (d : ℕ) (after : List ℕ) where
-  -- Pruning keeps what was in use, and what is in use afterwards is a table.
-  pub prunes_keeps : (p : Pruned) → Prunes before used c d after p → Kept used before after
-  prunes_keeps (Part root) (e, b) = b.kept
-  prunes_keeps Nothing (e, keeps) = keeps
-
-  pub prunes_table : (p : Pruned) → Table before used → Prunes before used c d after p → Table after (above p used)
-  prunes_table (Part root) table (e, b) = b.held.table
-  prunes_table Nothing table (e, keeps) = kept_table used before after keeps table
-
-  -- The part that is left, if any, is in a table.
-  pub prunes_part_table : (p : Pruned) → Table before used → Prunes before used c d after p → Table after (above p 0)
-  prunes_part_table (Part root) table (e, b) = b.held.table
-  prunes_part_table Nothing table (e, keeps) =
-      table_less after used 0 (omega arith) (kept_table used before after keeps table)
-
-  pub prunes_more : (p : Pruned) → Table before used → Prunes before used c d after p → used ≤ above p used
-  prunes_more (Part root) table (e, b) = builds_more b table.counted
-  prunes_more Nothing table (e, keeps) = omega arith
+  -- The places in use after pruning are a table, also where no more of them count than these if nothing is left.
+  pub prunes_table :
+      (p : Option Root) (least : ℕ) → least ≤ used → Table before used → Prunes before used c d after p
+      → Table after (above p least)
+  prunes_table (Some root) least h table (e, b) = b.held.table
+  prunes_table None least h table (e, keeps) =
+      table_less after used least h (kept_table used before after keeps table)
 
 -- What is kept as it stands: an empty and an action.
 pub leaf_pruned :
     (room : List ℕ) (used place d : ℕ) → Table room used → place < used → evades (chart_in room place) d ≡ true
     → prune (chart_in room place) d ≡ kept (chart_in room place)
-    → Prunes room used (chart_in room place) d room (Part (record { place = place; used = used }))
+    → Prunes room used (chart_in room place) d room (Some (record { place = place; used = used }))
 leaf_pruned room used place d table below evading as_it_stands =
     (evading, rw as_it_stands (kept_builds room used place table (λ h. below)))
 
 pub empty_pruned :
     (room : List ℕ) (used place d : ℕ) → Table room used → place < used → chart_in room place ≡ empty
-    → Prunes room used (chart_in room place) d room (Part (record { place = place; used = used }))
+    → Prunes room used (chart_in room place) d room (Some (record { place = place; used = used }))
 unfolding prune
 empty_pruned room used place d table below e =
     leaf_pruned room used place d table below (ap (λ c. evades c d) e)
@@ -91,28 +79,28 @@ empty_pruned room used place d table below e =
 -- Sides of which something is left, and sides of which nothing is. If nothing is left of the left side, the right side
 -- is pruned above the same places in use.
 module _ (before middle : List ℕ) (used d : ℕ) (l r : Chart) (table : Table before used) where
-  pub order_lost : (o : Order) → Prunes before used l d middle Nothing
-      → Prunes before used (pair o l r) d middle Nothing
+  pub order_lost : (o : Order) → Prunes before used l d middle None
+      → Prunes before used (pair o l r) d middle None
   order_lost o (le, keeps) = (rw le, keeps)
 
   pub alt_by_its_right :
-      (room : List ℕ) (right : Pruned) → Prunes before used l d middle Nothing → Prunes middle used r d room right
+      (room : List ℕ) (right : Option Root) → Prunes before used l d middle None → Prunes middle used r d room right
       → Prunes before used (alt l r) d room right
   unfolding prune
-  alt_by_its_right room (Part part) (le, keeps) (re, rb) =
+  alt_by_its_right room (Some part) (le, keeps) (re, rb) =
       (rw (le, re), rw le (kept_then_builds table.counted keeps rb))
-  alt_by_its_right room Nothing (le, keeps) (re, still) =
+  alt_by_its_right room None (le, keeps) (re, still) =
       (rw (le, re), kept_then used used before middle room (omega arith) keeps still)
 
   module _ (room : List ℕ) (left : Root) (kind : ℕ) where
     pub order_pruned :
-        (o : Order) → kind_of kind ≡ pairs (composed o) → eqb kind 6 ≡ false → (right : Pruned)
-        → Prunes before used l d middle (Part left) → Prunes middle left.used r d room right
+        (o : Order) → kind_of kind ≡ pairs (composed o) → eqb kind 6 ≡ false → (right : Option Root)
+        → Prunes before used l d middle (Some left) → Prunes middle left.used r d room right
         → Prunes before used (pair o l r) d (pair_in room kind left right) (pair_of room kind left right)
     unfolding prune
-    order_pruned o e six (Part part) (le, lb) (re, rb) =
+    order_pruned o e six (Some part) (le, lb) (re, rb) =
         (rw (le, re), pair_builds lb (composed o) kind table.counted e rb)
-    order_pruned o e six Nothing (le, lb) (re, keeps) =
+    order_pruned o e six None (le, lb) (re, keeps) =
         rw six (
           rw (le, re),
           kept_then used left.used before middle room (builds_more lb table.counted) lb.kept
@@ -120,25 +108,25 @@ module _ (before middle : List ℕ) (used d : ℕ) (l r : Chart) (table : Table 
         )
 
     pub alt_pruned :
-        kind ≡ 6 → (right : Pruned) → Prunes before used l d middle (Part left)
+        kind ≡ 6 → (right : Option Root) → Prunes before used l d middle (Some left)
         → Prunes middle left.used r d room right
         → Prunes before used (alt l r) d (pair_in room kind left right) (pair_of room kind left right)
     unfolding prune
-    alt_pruned six (Part part) (le, lb) (re, rb) =
+    alt_pruned six (Some part) (le, lb) (re, rb) =
         (rw le, rw (le, re) (pair_builds lb choice kind table.counted (six_is_the_choice kind six) rb))
-    alt_pruned six Nothing (le, lb) (re, keeps) =
+    alt_pruned six None (le, lb) (re, keeps) =
         rw (eq-eqb kind 6 six)
         (rw le, rw (le, re) (builds_kept lb (builds_more lb table.counted) keeps))
 
 -- A loop always evades, and becomes the loop of what is left of its body, or empty.
 pub loop_pruned :
     (before room : List ℕ) (used d : ℕ) (b : Chart) (k : Loop) (kind : ℕ) → Table before used → kind_of kind ≡ loops k
-    → (body : Pruned) → Prunes before used b d room body
+    → (body : Option Root) → Prunes before used b d room body
     → Builds before used (prune (loop k b) d) (loop_in room kind body used) (loop_of room body used)
 unfolding prune
-loop_pruned before room used d b k kind table e (Part root) (be, bb) =
+loop_pruned before room used d b k kind table e (Some root) (be, bb) =
     rw be (loop_builds bb k kind table.counted e)
-loop_pruned before room used d b k kind table e Nothing (be, keeps) =
+loop_pruned before room used d b k kind table e None (be, keeps) =
     rw be
     (kept_then_builds table.counted keeps (empty_builds room used (kept_table used before room keeps table)))
 
@@ -165,8 +153,8 @@ module _ (work : Working) (d : ℕ) where
   below : place < used
   below = work.below
 
-  abbrev itself : Pruned
-  itself = Part (record { place = place; used = used })
+  abbrev itself : Option Root
+  itself = Some (record { place = place; used = used })
 
   pub at_an_empty : n.kind ≡ 0 → Prunes before used (chart_in before place) d before itself
   at_an_empty k = empty_pruned before used place d table below (empty_here r k)
@@ -188,34 +176,37 @@ module _ (work : Working) (d : ℕ) where
       (ap (λ c. prune c d) acts ∙ ap kept (sym acts))
 
   pub at_an_action_on_it :
-      1 ≤ n.kind → n.kind ≤ 2 → n.a ≡ d → Prunes before used (chart_in before place) d before Nothing
+      1 ≤ n.kind → n.kind ≤ 2 → n.a ≡ d → Prunes before used (chart_in before place) d before None
   at_an_action_on_it low high same =
       (evades_here low high ∙ ap not (eq-eqb n.a d same), kept_self used before)
 
   module _ (low : 3 ≤ n.kind) (high : n.kind ≤ 6) where
-    pub asks_left : Table before used × Rooted before n.a × n.a < used
-    asks_left = let (a, there) = left_lower r low high in (table, there, omega arith)
+    pub asks_left : (n.a < place) × Stands before (record { place = n.a; used = used })
+    asks_left = let (a, there) = left_lower r low high in (a, (table, there, omega arith))
 
     right_there : (n.b < place) × Rooted before n.b
     right_there = right_lower r low high
 
-    -- Nothing is left of the left side.
-    module _ (middle : List ℕ) (on_left : Prunes before used (chart_in before n.a) d middle Nothing) where
-      pub at_a_lost_order : n.kind ≢ 6 → Prunes before used (chart_in before place) d middle Nothing
+    -- None is left of the left side.
+    module _ (middle : List ℕ) (on_left : Prunes before used (chart_in before n.a) d middle None) where
+      pub at_a_lost_order : n.kind ≢ 6 → Prunes before used (chart_in before place) d middle None
       at_a_lost_order other =
           let (o, e, whole) = order_here r low (omega arith) in
           rw whole (order_lost before middle used d (chart_in before n.a) (chart_in before n.b) table o on_left)
 
-      pub asks_right_alone : Table middle used × Rooted middle n.b × n.b < used
+      pub asks_right_alone : (n.b < place) × Stands middle (record { place = n.b; used = used })
       asks_right_alone =
           let (b, there) = right_there in (
-            kept_table used before middle on_left.1 table,
-            kept_rooted used before middle n.b on_left.1 table there (omega arith),
-            omega arith,
+            b,
+            (
+              kept_table used before middle on_left.1 table,
+              kept_rooted used before middle n.b on_left.1 table there (omega arith),
+              omega arith,
+            ),
           )
 
       pub at_an_alt_by_its_right :
-          (room : List ℕ) (right : Pruned) → n.kind ≡ 6 → Prunes middle used (chart_in middle n.b) d room right
+          (room : List ℕ) (right : Option Root) → n.kind ≡ 6 → Prunes middle used (chart_in middle n.b) d room right
           → Prunes before used (chart_in before place) d room right
       at_an_alt_by_its_right room right six at_right =
           let (b, there) = right_there in
@@ -228,26 +219,29 @@ module _ (work : Working) (d : ℕ) where
 
     -- Something is left of the left side, and the right side is pruned above it.
     module _ (middle : List ℕ) (left : Root)
-        (on_left : Prunes before used (chart_in before n.a) d middle (Part left)) where
+        (on_left : Prunes before used (chart_in before n.a) d middle (Some left)) where
       above_left : used ≤ left.used
       above_left = builds_more on_left.1 table.counted
 
-      pub asks_right : Table middle left.used × Rooted middle n.b × n.b < left.used
+      pub asks_right : (n.b < place) × Stands middle (record { place = n.b; used = left.used })
       asks_right =
           let (b, there) = right_there in
           let built = on_left.1 in
           let inside : n.b < length middle = omega (arith, there.inside, built.kept.long) in (
-            built.held.table,
-            table_rooted middle left.used n.b built.held.table (omega (arith, above_left)) inside,
-            omega (arith, above_left),
+            b,
+            (
+              built.held.table,
+              table_rooted middle left.used n.b built.held.table (omega (arith, above_left)) inside,
+              omega (arith, above_left),
+            ),
           )
 
-      module _ (room : List ℕ) (right : Pruned)
+      module _ (room : List ℕ) (right : Option Root)
           (at_right : Prunes middle left.used (chart_in middle n.b) d room right) where
         pub above_right : Table room (above right 0)
         above_right =
-            prunes_part_table middle left.used (chart_in middle n.b) d room right on_left.1.held.table
-            at_right
+            prunes_table middle left.used (chart_in middle n.b) d room right 0 (omega arith)
+            on_left.1.held.table at_right
 
         pub at_a_pair :
             Prunes before used (chart_in before place) d (pair_in room n.kind left right)
@@ -273,18 +267,20 @@ module _ (work : Working) (d : ℕ) where
                 (order_pruned before middle used d (chart_in before n.a) (chart_in before n.b) table room left
                 n.kind o e (ne_eqb n.kind 6 other) right on_left (rw same at at_right))
 
-  pub asks_body : 7 ≤ n.kind → n.kind ≤ 10 → Table before used × Rooted before n.a × n.a < used
-  asks_body low high = let (a, there) = body_lower r low high in (table, there, omega arith)
+  pub asks_body : 7 ≤ n.kind → n.kind ≤ 10
+      → (n.a < place) × Stands before (record { place = n.a; used = used })
+  asks_body low high = let (a, there) = body_lower r low high in (a, (table, there, omega arith))
 
   pub above_body :
-      (room : List ℕ) (body : Pruned) → Prunes before used (chart_in before n.a) d room body
+      (room : List ℕ) (body : Option Root) → Prunes before used (chart_in before n.a) d room body
       → Table room (above body used)
-  above_body room body on_body = prunes_table before used (chart_in before n.a) d room body table on_body
+  above_body room body on_body =
+      prunes_table before used (chart_in before n.a) d room body used (omega arith) table on_body
 
   pub at_a_loop :
-      (room : List ℕ) (body : Pruned) → 7 ≤ n.kind → n.kind ≤ 10
+      (room : List ℕ) (body : Option Root) → 7 ≤ n.kind → n.kind ≤ 10
       → Prunes before used (chart_in before n.a) d room body
-      → Prunes before used (chart_in before place) d (loop_in room n.kind body used) (Part (loop_of room body used))
+      → Prunes before used (chart_in before place) d (loop_in room n.kind body used) (Some (loop_of room body used))
   at_a_loop room body low high on_body =
       let (k, e, whole) = loop_here r low high in
       rw whole (refl, loop_pruned before room used d (chart_in before n.a) k n.kind table e body on_body)

@@ -2,75 +2,63 @@
 // place number falls at each call.
 #![tactic(auto)]
 
-ghost use Rattle.std.specs.Prelude.{◌≡◌, ◌<◌};
-ghost use Rattle.room_spec.specs.Room.{chart_in, Table, Rooted};
+ghost use Rattle.std.specs.Prelude.{◌≡◌, Option};
+ghost use Rattle.room_spec.specs.Room.{chart_in, Table, Stands};
 ghost use Rattle.room_spec.specs.Building.{Prunes};
 ghost use Rattle.room_prune.specs.Sides.{above, pair_of, pair_in, loop_of, loop_in};
 
 use node::Node;
-use room_spec::{Pruned, Root};
+use room_spec::Root;
 
 // What is left of a pair whose pruned left side is `left`, given what is left of its right side: an alt keeps both
 // sides or only the left one; of any other pair both are left, or nothing.
-fn pair_of(room: &mut [u32], kind: u32, left: Root, right: Pruned) -> Pruned
+fn pair_of(room: &mut [u32], kind: u32, left: Root, right: Option<Root>) -> Option<Root>
     requires { Table room.old (above right 0) }
     ensures { result ≡ pair_of room.old kind left right
         × room.new ≡ pair_in room.old kind left right }
 {
-    let Pruned::Part(part) = right else {
-        if kind == Node::ALT {
-            return Pruned::Part(left);
+    match right {
+        Some(part) => {
+            let both = Node::new(kind, left.place, part.place);
+            Some(room_places::add(room, both, part.used))
         }
-        return Pruned::Nothing;
-    };
-    Pruned::Part(room_places::add(room, kind, left.place, part.place, part.used))
+        None if kind == Node::ALT => Some(left),
+        None => None,
+    }
 }
 
 // What is left of a loop, given what is left of its body: a loop of that, or an empty.
-pub fn loop_of(room: &mut [u32], kind: u32, body: Pruned, used: u32) -> Root
+pub fn loop_of(room: &mut [u32], kind: u32, body: Option<Root>, used: u32) -> Root
     requires { Table room.old (above body used) }
     ensures { result ≡ loop_of room.old body used × room.new ≡ loop_in room.old kind body used }
 {
-    let Pruned::Part(root) = body else {
-        return room_places::add(room, Node::EMPTY, 0, 0, used);
-    };
-    room_places::add(room, kind, root.place, 0, root.used)
+    match body {
+        Some(part) => room_places::add(room, Node::new(kind, part.place, 0), part.used),
+        None => room_places::add(room, Node::new(Node::EMPTY, 0, 0), used),
+    }
 }
 
-// Prunes a part by a lifeline and puts its new nodes from `used` on; nothing is left if it does not evade the lifeline.
-pub fn prune(room: &mut [u32], place: u32, lifeline: u32, used: u32) -> Pruned
-    requires { Table room.old used × Rooted room.old place × place < used }
-    ensures { Prunes room.old used (chart_in room.old place) lifeline room.new result }
+// Prunes a part by a lifeline and puts its new nodes above the places in use; nothing is left if it does not evade the
+// lifeline.
+pub fn prune(room: &mut [u32], root: Root, lifeline: u32) -> Option<Root>
+    requires { Stands room.old root }
+    ensures { Prunes room.old root.used (chart_in room.old root.place) lifeline room.new result }
 {
-    let itself = Pruned::Part(Root {
-        place: place,
-        used: used,
-    });
-    let node = room_places::read(room, place);
-    let kind = node.kind;
-    match kind {
-        Node::EMPTY => itself,
-        Node::EMISSION..=Node::RECEPTION => {
-            if node.a == lifeline {
-                return Pruned::Nothing;
+    let node = room_places::read(room, root.place);
+    match node.kind {
+        Node::EMISSION..=Node::RECEPTION if node.a == lifeline => None,
+        Node::STRICT..=Node::ALT => match prune(room, root.at(node.a), lifeline) {
+            Some(left) => {
+                let right = prune(room, left.at(node.b), lifeline);
+                pair_of(room, node.kind, left, right)
             }
-            itself
-        }
-        Node::STRICT..=Node::ALT => {
-            let left = prune(room, node.a, lifeline, used);
-            let Pruned::Part(part) = left else {
-                if kind == Node::ALT {
-                    return prune(room, node.b, lifeline, used);
-                }
-                return Pruned::Nothing;
-            };
-            let right = prune(room, node.b, lifeline, part.used);
-            pair_of(room, kind, part, right)
-        }
+            None if node.kind == Node::ALT => prune(room, root.at(node.b), lifeline),
+            None => None,
+        },
         Node::STRICT_LOOP..=Node::PAR_LOOP => {
-            let body = prune(room, node.a, lifeline, used);
-            Pruned::Part(loop_of(room, kind, body, used))
+            let body = prune(room, root.at(node.a), lifeline);
+            Some(loop_of(room, node.kind, body, root.used))
         }
-        _ => itself,
+        _ => Some(root),
     }
 }

@@ -24,7 +24,8 @@ use Rattle.node_spec.proofs.Ranges.{
   children_of_a_pair,
   children_of_a_loop,
 }
-use Rattle.room_spec.specs.Room.{nodes_in, node_in, chart_in, Table, Rooted, Kept}
+use Rattle.room_spec.specs.declared.Root.{Root}
+use Rattle.room_spec.specs.Room.{nodes_in, node_in, chart_in, Table, Rooted, Stands, Kept}
 use Rattle.room_spec.proofs.Standing.{chart_at, kept_table, table_less}
 
 -- Every place of a table is the root of a part.
@@ -40,6 +41,15 @@ pub kept_rooted :
 kept_rooted used before after place kept table root h =
     table_rooted after used place (kept_table used before after kept table) h
     (omega (arith, root.inside, kept.long))
+
+-- A part stands where all that is in use with it is kept.
+pub kept_stands :
+    (root : Root) (before after : List ℕ) → Kept root.used before after → Stands before root → Stands after root
+kept_stands root before after kept (table, rooted, below) = (
+  kept_table root.used before after kept table,
+  kept_rooted root.used before after root.place kept table rooted below,
+  below,
+)
 
 -- A part at a place, and its node as it was read.
 pub record Reading : Type 0 where

@@ -1,23 +1,17 @@
--- A question that is answered by descending a chart: empty and loops say yes, an alt if either side does, any other
--- pair if both do. Terminating is such a question, and so is evading a lifeline. The answer at a place comes from the
--- answers at its parts, and the right part is asked only if the left does not decide.
+-- Terminating is a question that is answered by descending a chart, and so is evading a lifeline. The answer at a place
+-- comes from the answers at its parts, and the right part is asked only if the left does not decide.
 -- Assumes nothing.
 use Prim.Native.Nat.{ℕ, ◌≤◌}
 use mathlib.Core.Bool.{Bool, true, false, ◌&&◌, ◌||◌}
 use mathlib.Core.List.{List}
 use mathlib.Core.Path.{◌≡◌, refl, ap, sym, ◌∙◌}
-use Rattle.chart_spec.specs.Chart.{Chart, Order, Loop}
-use Rattle.chart_spec.specs.Chart.Chart.{empty, alt, pair, loop}
+use Rattle.chart_spec.specs.Chart.{Chart}
+use Rattle.chart_spec.specs.Chart.Chart.{act}
 use Rattle.chart_spec.specs.Executing.{terminates, evades}
 use Rattle.node.specs.declared.Node.{Node}
 use Rattle.room_spec.specs.Room.{chart_in}
-use Rattle.room_spec.proofs.Apart.{Reading, empty_here, order_here, alt_here, loop_here, unknown_here}
-
-pub record Descends (f : Chart → Bool) : Type 0 where
-  pub at_empty : f empty ≡ true
-  pub at_alt : (l r : Chart) → f (alt l r) ≡ (f l || f r)
-  pub at_pair : (o : Order) (l r : Chart) → f (pair o l r) ≡ (f l && f r)
-  pub at_loop : (k : Loop) (b : Chart) → f (loop k b) ≡ true
+use Rattle.room_spec.specs.Descending.{Descends}
+use Rattle.room_spec.proofs.Apart.{Reading, empty_here, action_here, order_here, alt_here, loop_here, unknown_here}
 
 pub terminates_descends : Descends terminates
 terminates_descends =
@@ -58,6 +52,16 @@ module _ {f : Chart → Bool} (descends : Descends f) (r : Reading) where
 
   pub yes_at_empty : n.kind ≡ 0 → true ≡ asked place
   yes_at_empty k = sym (ap f (empty_here r k) ∙ descends.at_empty)
+
+  -- What is said at an action on that lifeline.
+  pub said_at_an_action :
+      1 ≤ n.kind → n.kind ≤ 2 → (said : Bool)
+      → ((receives : Bool) (message : ℕ)
+      → said ≡ f (act (record { line = n.a; receives = receives; message = message })))
+      → said ≡ asked place
+  said_at_an_action low high said on_it =
+      let (receives, e, acts) = action_here r low high in
+      on_it receives n.b ∙ sym (ap f acts)
 
   pub yes_at_a_loop : 7 ≤ n.kind → n.kind ≤ 10 → true ≡ asked place
   yes_at_a_loop low high =

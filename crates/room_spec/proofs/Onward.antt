@@ -8,11 +8,11 @@ use mathlib.Core.Logic.{◌↔◌}
 use mathlib.Core.Path.{◌≡◌}
 use native.Mathlib.Omega.{arith}
 use lib.ListN.{length, get_or}
+use Rattle.std.specs.Prelude.{Result, Ok}
 use Rattle.chart_spec.specs.Executing.{Made, chart_of, cost_of}
 use Rattle.chart_spec.specs.Executing.Made.{new_empty}
 use Rattle.room_spec.specs.declared.Root.{Root}
-use Rattle.room_spec.specs.declared.Executed.{Executed}
-use Rattle.room_spec.specs.declared.Executed.TheVariants.{FollowUp}
+use Rattle.room_spec.specs.declared.Missing.{Missing}
 use Rattle.room_spec.specs.Room.{chart_in, Table, Rooted}
 use Rattle.room_spec.specs.Building.{Follows}
 use Rattle.room_spec.proofs.Standing.{kept_chart, kept_table}
@@ -20,7 +20,8 @@ use Rattle.room_spec.proofs.Apart.{table_rooted, kept_rooted}
 use Rattle.room_spec.proofs.Answering.{answer_keeps}
 
 module _ (before : List ℕ) (used : ℕ) (xs : List Made) (k : ℕ) (after : List ℕ) where
-  module _ (answer : Executed) (given : Follows before used xs k after answer) (table : Table before used) where
+  module _ (answer : Result Root Missing) (given : Follows before used xs k after answer)
+      (table : Table before used) where
     pub still_a_table : Table after used
     still_a_table = kept_table used before after (answer_keeps before used xs k after answer given) table
 
@@ -33,7 +34,7 @@ module _ (before : List ℕ) (used : ℕ) (xs : List Made) (k : ℕ) (after : Li
       still_stands =
           kept_chart used before after (answer_keeps before used xs k after answer given) place below root.inside
 
-  module _ (x : Root) (given : Follows before used xs k after (FollowUp x)) where
+  module _ (x : Root) (given : Follows before used xs k after (Ok x)) where
     abbrev part : Made
     part = get_or xs k new_empty
 

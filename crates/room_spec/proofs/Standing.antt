@@ -1,7 +1,7 @@
 -- What stands in a room: the chart at a place is the chart of its node, and what is kept keeps its charts. Both come
 -- from the laws of rows: what stands at a place depends only on the nodes up to it.
 -- Assumes nothing.
-use Prim.Native.Nat.{ℕ, ◌+◌, ◌<◌, ◌≤◌}
+use Prim.Native.Nat.{ℕ, ◌<◌, ◌≤◌}
 use mathlib.Core.List.{List, ◌++◌, map-append}
 use mathlib.Core.Path.{◌≡◌, refl, ap, sym, subst, ◌∙◌}
 use native.Mathlib.Omega.{arith}

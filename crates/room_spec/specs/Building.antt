@@ -1,7 +1,7 @@
 -- Working definitions, which nobody has to believe: what it means that a part was built in a room, that a part was
 -- pruned, and that an occurrence was executed.
 -- Assumes nothing.
-use Rattle.std.specs.Prelude.{ℕ, suc, ◌+◌, min, ◌≤◌, ◌<◌, true, false, List, ◌≡◌, length, get_or, set}
+use Rattle.std.specs.Prelude.{ℕ, suc, ◌+◌, min, ◌≤◌, ◌<◌, true, false, List, Option, Some, None, Result, Ok, Err, ◌≡◌, length, get_or, set}
 use Rattle.chart_spec.specs.Action as chart
 use Rattle.chart_spec.specs.Chart.{Chart}
 use Rattle.chart_spec.specs.Executing.{Made, chart_of, cost_of, evades, prune}
@@ -10,10 +10,7 @@ use Rattle.node.specs.declared.Node.{Node}
 use Rattle.node.specs.Place.{word_of}
 use Rattle.room_spec.specs.declared.Action.{Action}
 use Rattle.room_spec.specs.declared.Root.{Root}
-use Rattle.room_spec.specs.declared.Pruned.{Pruned}
-use Rattle.room_spec.specs.declared.Pruned.TheVariants.{Part, Nothing}
-use Rattle.room_spec.specs.declared.Executed.{Executed}
-use Rattle.room_spec.specs.declared.Executed.TheVariants.{FollowUp, Missing}
+use Rattle.room_spec.specs.declared.Missing.{Missing}
 use Rattle.room_spec.specs.Room.{chart_in, Table, Kept}
 
 -- The action of a chart that an action of the code stands for (01, The log).
@@ -47,12 +44,12 @@ pub record Builds (before : List ℕ) (used : ℕ) (part : Made) (after : List �
   pub stands : root.used ≤ length after → chart_in after root.place ≡ chart_of part
 
 -- A chart was pruned by lifeline d: "only of what evades d" (01, How a log is executed).
-abbrev pub Prunes : List ℕ → ℕ → Chart → ℕ → List ℕ → Pruned → Type 0
-Prunes before used c d after (Part root) = (evades c d ≡ true) × Builds before used (prune c d) after root
-Prunes before used c d after Nothing = (evades c d ≡ false) × Kept used before after
+abbrev pub Prunes : List ℕ → ℕ → Chart → ℕ → List ℕ → Option Root → Type 0
+Prunes before used c d after (Some root) = (evades c d ≡ true) × Builds before used (prune c d) after root
+Prunes before used c d after None = (evades c d ≡ false) × Kept used before after
 
 -- Of these follow-ups, with occurrences from left to right, number k was built, counted from 0; or there are too few,
--- and `more` occurrences are still to be passed over (01, How a log is executed, Search).
-abbrev pub Follows : List ℕ → ℕ → List Made → ℕ → List ℕ → Executed → Type 0
-Follows before used xs k after (FollowUp root) = (k < length xs) × Builds before used (get_or xs k new_empty) after root
-Follows before used xs k after (Missing more) = (k ≡ length xs + more) × Kept used before after
+-- and so many occurrences are still to be passed over (01, How a log is executed, Search).
+abbrev pub Follows : List ℕ → ℕ → List Made → ℕ → List ℕ → Result Root Missing → Type 0
+Follows before used xs k after (Ok root) = (k < length xs) × Builds before used (get_or xs k new_empty) after root
+Follows before used xs k after (Err missing) = (k ≡ length xs + missing.more) × Kept used before after

@@ -3,3 +3,4 @@
 pub mod Room
 pub mod Building
 pub mod Passing
+pub mod Descending

@@ -7,6 +7,7 @@ use Rattle.chart_spec.specs.Chart.Chart.{empty}
 use Rattle.node.specs.declared.Node.{Node}
 use Rattle.node.specs.Place.{node_of}
 use Rattle.node_spec.specs.Row.{charts, children, Below}
+use Rattle.room_spec.specs.declared.Root.{Root}
 
 -- The nodes of a room: "a lent run of 32-bit numbers, one a place" (01, How a log is executed).
 abbrev pub nodes_in : List ℕ → List Node
@@ -27,10 +28,16 @@ pub record Table (room : List ℕ) (used : ℕ) : Type 0 where
   pub counted : used ≤ suc (length room)
   pub lower : (p : ℕ) → p < used → p < length room → Below p (children (node_in room p))
 
--- A part has its root at this place: it and every node before it have their parts at lower places.
+-- A part has its root at this place: it and every node before it have their parts at lower places. Functions ask it in
+-- a clause, and not by a type of a room and a place: it holds for the parts of a part too, so each descent would have to
+-- make such a value, with the same proof as for the clause.
 pub record Rooted (room : List ℕ) (place : ℕ) : Type 0 where
   pub inside : place < length room
   pub table : Table room (suc place)
+
+-- A part stands in a room: the places in use with it are a table, and its root is one of them.
+abbrev pub Stands : List ℕ → Root → Type 0
+Stands room root = Table room root.used × Rooted room root.place × root.place < root.used
 
 -- Nothing in the first `used` places has changed, nor has the length.
 pub record Kept (used : ℕ) (before after : List ℕ) : Type 0 where

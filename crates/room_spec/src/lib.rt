@@ -2,6 +2,8 @@
 // specs/Building.antt what the answers mean. The code is in the other crates `room_..`.
 #![tactic(auto)]
 
+ghost use Rattle.std.specs.Prelude.{◌≡◌};
+
 // An action of a log.
 #[derive(Clone, Copy)]
 pub struct Action {
@@ -11,23 +13,30 @@ pub struct Action {
 }
 
 // A part in the room: the place of its root, and how many places are in use with it. If that is more than the room has,
-// `used` is one more than the room's length, and nothing stands at the place.
+// `used` is one more than the room's length, and nothing stands at the place. That is told by `used` and not by an
+// option, since a part that exceeds the room is built on: it may still turn out that there is no follow-up, or that 9
+// comes first (`exceeds_the_room`, room_spec/proofs/Onward.antt). Parts are named by number: C lends the room, and no
+// heap is used.
 #[derive(Clone, Copy)]
 pub struct Root {
     pub place: u32,
     pub used: u32,
 }
 
-// What pruning returns: what is left of the part, or nothing if the part does not evade the lifeline.
-#[derive(Clone, Copy)]
-pub enum Pruned {
-    Part(Root),
-    Nothing,
+impl Root {
+    // The part at this place, among the same places in use.
+    pub fn at(self, place: u32) -> Root
+        ensures { result ≡ record { place = place; used = self.used } }
+    {
+        Root {
+            place,
+            used: self.used,
+        }
+    }
 }
 
-// What executing an occurrence returns: the follow-up, or how many occurrences are still to be passed over.
+// That there are too few occurrences: so many more are still to be passed over.
 #[derive(Clone, Copy)]
-pub enum Executed {
-    FollowUp(Root),
-    Missing(u32),
+pub struct Missing {
+    pub more: u32,
 }

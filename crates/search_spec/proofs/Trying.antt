@@ -1,6 +1,7 @@
 -- One choice: what the code tries is what the definition tries. A follow-up that exceeds the room stops both; any other
 -- has the definition's chart and places. Also: what a choice leaves of the allowance, and how deep it gets.
 -- Assumes nothing.
+use Rattle.std.specs.Prelude.{Ok}
 use Prim.Native.Nat.{ℕ, suc, ◌+◌, ◌-◌, max, ◌<◌, ◌≤◌}
 use mathlib.Core.Bool.{Bool, true, false}
 use mathlib.Core.List.{List}
@@ -17,14 +18,15 @@ use Rattle.chart_spec.specs.Executing.{Made, chart_of, cost_of}
 use Rattle.chart_spec.specs.Executing.Made.{new_empty}
 use Rattle.chart_spec.specs.Lending.{Ending, follow_up, walk}
 use Rattle.room_spec.specs.declared.Root.{Root}
-use Rattle.room_spec.specs.declared.Executed.TheVariants.{FollowUp}
 use Rattle.room_spec.specs.Room.{chart_in}
 use Rattle.room_spec.specs.Building.{Follows}
 use Rattle.room_spec.proofs.Standing.{kept_self}
 use Rattle.room_spec.proofs.Onward.{exceeds_the_room, follow_up_costs, follow_up_stands}
+use Rattle.number.specs.declared.Refusal.TheVariants.{AllowanceSpent, RoomExceeded}
+use Rattle.search_spec.specs.declared.Tally.{Tally}
+use Rattle.search_spec.specs.declared.Outcome.TheVariants.{Failed, Stopped}
 use Rattle.search_spec.specs.declared.Ended.{Ended}
-use Rattle.search_spec.specs.declared.Ended.TheVariants.{Found, Failed, Stopped}
-use Rattle.search_spec.specs.Ending.{left_of, Leaves, Searches, Attempts}
+use Rattle.search_spec.specs.Ending.{ending_by, Searches, Attempts}
 use Rattle.search_spec.proofs.Deepest.{Within, follow_up_within, walk_within}
 
 -- A stop because of the room does not depend on the follow-up.
@@ -55,7 +57,7 @@ module _ (allowance : ℕ) (rest : Log) where
   goes room x n s p = walk allowance room rest x n s p
 
   module _ (before : List ℕ) (used : ℕ) (xs : List Made) (k : ℕ) (after : List ℕ) (x : Root)
-      (given : Follows before used xs k after (FollowUp x)) where
+      (given : Follows before used xs k after (Ok x)) where
     -- The follow-up that was made is the definition's.
     pub same_choice : (b : Bool) (s p : ℕ)
         → follow_up b (ltb (length after) x.used) x.used (goes (length after) (chart_in after x.place) x.used)
@@ -80,65 +82,59 @@ module _ (allowance : ℕ) (rest : Log) where
         (goes (length after) (chart_of part) n) s p alike same
         ∙ ap (λ l. follow_up b (ltb l n) n (goes l (chart_of part) n) s p) long
 
--- A search that went on after a step leaves less of the allowance than there was before the step.
-pub leaves_less : (allowance : ℕ) (r : Ended) → left_of r < allowance → Leaves allowance r
-leaves_less allowance (Found left places) h = omega arith
-leaves_less allowance (Failed deepest left places) h = h
-leaves_less allowance (Stopped number left places) h = omega arith
-
-pub leaves_no_more : (allowance : ℕ) (r : Ended) → Leaves allowance r → left_of r ≤ allowance
-leaves_no_more allowance (Found left places) h = h
-leaves_no_more allowance (Failed deepest left places) h = omega arith
-leaves_no_more allowance (Stopped number left places) h = h
-
-module _ (before : List ℕ) (rest : Log) (x : Root) (allowance places : ℕ) where
+module _ (before : List ℕ) (rest : Log) (x : Root) (tally : Tally) where
   -- "A follow-up is wanted and the allowance is spent."
-  pub spent_stops : allowance ≡ 0 → Attempts before rest x allowance places before (Stopped 9 allowance places)
+  pub spent_stops : tally.left ≡ 0
+      → Attempts before rest x tally before (record { outcome = Stopped AllowanceSpent; tally = tally })
   spent_stops none =
       record {
         kept = kept_self x.used before;
         left = omega arith;
+        step = λ deepest told. cc;
         ends = λ steps.
-            let made : steps + allowance - allowance ≡ steps = omega arith in
-            rw (le-leb (steps + allowance) steps (omega arith), made);
+            let made : steps + tally.left - tally.left ≡ steps = omega arith in
+            rw (le-leb (steps + tally.left) steps (omega arith), made);
       }
 
-  module _ (some : ¬ (allowance ≡ 0)) where
-    unspent : (steps : ℕ) → leb (steps + allowance) steps ≡ false
-    unspent steps = lt-leb (steps + allowance) steps (omega arith)
+  module _ (some : ¬ (tally.left ≡ 0)) where
+    unspent : (steps : ℕ) → leb (steps + tally.left) steps ≡ false
+    unspent steps = lt-leb (steps + tally.left) steps (omega arith)
 
     -- "The next whole follow-up exceeds the usable room."
     pub exceeding_stops : length before < x.used
-        → Attempts before rest x allowance places before (Stopped 10 allowance places)
+        → Attempts before rest x tally before (record { outcome = Stopped RoomExceeded; tally = tally })
     exceeding_stops over =
         record {
           kept = kept_self x.used before;
           left = omega arith;
+          step = λ deepest told. cc;
           ends = λ steps.
-              let made : steps + allowance - allowance ≡ steps = omega arith in
+              let made : steps + tally.left - tally.left ≡ steps = omega arith in
               rw (unspent steps, lt-ltb (length before) x.used over, made);
         }
 
     -- Else it is a step, and the search goes on from it.
     pub fitting_goes_on :
         (after : List ℕ) (r : Ended) → x.used ≤ length before
-        → Searches before rest x (allowance - 1) (max places x.used) after r
-        → Attempts before rest x allowance places after r
+        → Searches before rest x (record { left = tally.left - 1; places = max tally.places x.used }) after r
+        → Attempts before rest x tally after r
     fitting_goes_on after r fits searched =
         record {
           kept = searched.kept;
-          left = leaves_less allowance r (omega (arith, searched.left));
+          left = omega (arith, searched.left);
+          step = λ deepest told. omega (arith, searched.left);
           ends = λ steps.
-              let all : suc steps + (allowance - 1) ≡ steps + allowance = omega arith in
+              let all : suc steps + (tally.left - 1) ≡ steps + tally.left = omega arith in
               rw (unspent steps, le-ltb (length before) x.used fits) (rw all at (searched.ends (suc steps)));
         }
 
 -- A choice that failed got no deeper than the rest of the log is long.
 pub attempt_within :
-    (before : List ℕ) (rest : Log) (x : Root) (allowance places : ℕ) (after : List ℕ) (deepest left most : ℕ)
-    → Attempts before rest x allowance places after (Failed deepest left most) → deepest ≤ length rest
-attempt_within before rest x allowance places after deepest left most given =
-    subst (Within (length rest)) (sym (given.ends 0))
-    (follow_up_within (length rest) (leb (0 + allowance) 0) (ltb (length before) x.used) x.used
-    (walk (0 + allowance) (length before) rest (chart_in before x.place) x.used) 0 places
-    (walk_within (0 + allowance) (length before) rest (chart_in before x.place) x.used))
+    (before : List ℕ) (rest : Log) (x : Root) (tally : Tally) (after : List ℕ) (r : Ended) (deepest : ℕ)
+    → Attempts before rest x tally after r → r.outcome ≡ Failed deepest → deepest ≤ length rest
+attempt_within before rest x tally after r deepest given told =
+    subst (Within (length rest))
+    (sym (given.ends 0) ∙ ap (ending_by (0 + tally.left) r.tally) told)
+    (follow_up_within (length rest) (leb (0 + tally.left) 0) (ltb (length before) x.used) x.used
+    (walk (0 + tally.left) (length before) rest (chart_in before x.place) x.used) 0 tally.places
+    (walk_within (0 + tally.left) (length before) rest (chart_in before x.place) x.used))

@@ -2,22 +2,27 @@
 // `search`.
 #![tactic(auto)]
 
-// How a search ends, each time with the allowance left and the most places in use: it found an accepting path; or every
-// choice failed, with the most actions executed on one path; or it was stopped, with its number.
+use number::Refusal;
+
+// What a search has to go on with: the allowance left, and the most places in use so far.
 #[derive(Clone, Copy)]
-pub enum Ended {
-    Found {
-        left: u32,
-        places: u32,
-    },
-    Failed {
-        deepest: u32,
-        left: u32,
-        places: u32,
-    },
-    Stopped {
-        number: u32,
-        left: u32,
-        places: u32,
-    },
+pub struct Tally {
+    pub left: u32,
+    pub places: u32,
+}
+
+// How a search ends: it found an accepting path; or every choice failed, with the most actions executed on one path; or
+// it was stopped.
+#[derive(Clone, Copy)]
+pub enum Outcome {
+    Found,
+    Failed { deepest: u32 },
+    Stopped(Refusal),
+}
+
+// A search that has ended, with the tally at its end.
+#[derive(Clone, Copy)]
+pub struct Ended {
+    pub outcome: Outcome,
+    pub tally: Tally,
 }

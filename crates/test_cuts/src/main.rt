@@ -2,69 +2,24 @@
 // and then the 24 bytes of an output that was filled with EE hex and of which the first bytes were lent.
 #![tactic(auto)]
 
-ghost use Rattle.std.specs.Prelude.{◌≤◌, length};
+ghost use Rattle.std.specs.Prelude.{◌≤◌};
 
-use cut_spec::CutAnswer;
 use std::io;
 use std::io::Stdout;
 
 const OUT: usize = 24;
 
-fn say(stdout: Stdout, text: &[u8]) -> io::Result<()> {
-    stdout.write_all(text)
-}
-
-fn space(stdout: Stdout) -> io::Result<()> {
-    say(stdout, b" ")
-}
-
-fn end_line(stdout: Stdout) -> io::Result<()> {
-    say(stdout, b"\n")
-}
-
-fn write_answer(stdout: Stdout, answer: CutAnswer) -> io::Result<()> {
-    print!(stdout; "{}", answer.number)?;
-    space(stdout)?;
-    print!(stdout; "{}", answer.place)?;
-    space(stdout)?;
-    print!(stdout; "{}", answer.length)
-}
-
-fn write_byte(stdout: Stdout, byte: u8) -> io::Result<()> {
-    space(stdout)?;
-    print!(stdout; "{byte:02x}")
-}
-
-fn write_bytes(stdout: Stdout, bytes: &[u8]) -> io::Result<()> {
-    let mut i = 0;
-    while i < bytes.len() {
-        write_byte(stdout, bytes[i])?;
-        i += 1;
-    }
-    Ok(())
-}
-
 // The cut of a card by a lifeline, with so many bytes of an output lent.
-fn show_in(
-    stdout: Stdout,
-    card: &[u8],
-    lifeline: u32,
-    lent: usize,
-    out: &mut [u8],
-) -> io::Result<()>
-    requires { lent ≤ length out.old }
-{
-    let answer = cut::cut(card, lifeline, &mut out[0..lent]);
-    write_answer(stdout, answer)?;
-    write_bytes(stdout, out)?;
-    end_line(stdout)
-}
-
 fn show(stdout: Stdout, card: &[u8], lifeline: u32, lent: usize) -> io::Result<()>
     requires { lent ≤ 24 }
 {
     let mut out = [0xEEu8; OUT];
-    show_in(stdout, card, lifeline, lent, &mut out)
+    let answer = cut::cut(card, lifeline, &mut out[..lent]);
+    print!(stdout; "{} {} {}", answer.number, answer.place, answer.length)?;
+    for byte in out {
+        print!(stdout; " {byte:02x}")?;
+    }
+    println!(stdout)
 }
 
 // "Cutting lifeline 0 from alt(0!0, 1!0) leaves 1!0; from 0!0 it gives 12; from a strict loop of 0!0 it leaves empty."

@@ -4,43 +4,16 @@
 // 0!1.
 #![tactic(auto)]
 
-ghost use Rattle.std.specs.Prelude.{◌≡◌, suc, ◌<◌, ◌≤◌, length};
-ghost use Rattle.room_spec.specs.Room.{Table, Rooted};
+ghost use Rattle.std.specs.Prelude.{suc, ◌≤◌, length};
+ghost use Rattle.room_spec.specs.Room.{Rooted, Stands};
 
 use node::Node;
-use room_lay::Laid;
-use room_spec::{Action, Executed, Pruned, Root};
+use room_spec::{Action, Root};
 use std::io;
 use std::io::Stdout;
 
-fn say_whether(stdout: Stdout, text: &[u8], is: bool) -> io::Result<()> {
-    stdout.write_all(text)?;
-    if is {
-        stdout.write_all(b" yes\n")
-    } else {
-        stdout.write_all(b" no\n")
-    }
-}
-
-fn count(stdout: Stdout, text: &[u8], number: u32) -> io::Result<()> {
-    stdout.write_all(text)?;
-    print!(stdout; "{number}")?;
-    stdout.write_all(b"\n")
-}
-
-fn tell(stdout: Stdout, places: u32, depth: u32, terminates: bool, evades: bool) -> io::Result<()> {
-    count(stdout, b"places ", places)?;
-    count(stdout, b"depth ", depth)?;
-    say_whether(stdout, b"terminates", terminates)?;
-    say_whether(stdout, b"evades lifeline 1", evades)
-}
-
-fn tell_pruned(stdout: Stdout, exceeds: bool) -> io::Result<()> {
-    say_whether(stdout, b"pruned by lifeline 1 it exceeds the room", exceeds)
-}
-
-fn tell_executed(stdout: Stdout, exceeds: bool) -> io::Result<()> {
-    say_whether(stdout, b"executed by 0!1 it exceeds the room", exceeds)
+fn word(is: bool) -> &'static str {
+    if is { "yes" } else { "no" }
 }
 
 // The depth of the chart at a place, counting its root as 1.
@@ -49,9 +22,8 @@ fn depth(room: &[u32], place: u32) -> u32
     ensures { result ≤ suc place }
 {
     let node = room_places::read(room, place);
-    let kind = node.kind;
-    match kind {
-        Node::STRICT..=Node::ALT => 1 + number::larger(depth(room, node.a), depth(room, node.b)),
+    match node.kind {
+        Node::STRICT..=Node::ALT => 1 + depth(room, node.a).max(depth(room, node.b)),
         Node::STRICT_LOOP..=Node::PAR_LOOP => 1 + depth(room, node.a),
         _ => 1,
     }
@@ -59,22 +31,19 @@ fn depth(room: &[u32], place: u32) -> u32
 
 // The chart that is left after an action was executed so many times, each time at its first occurrence; fewer times if
 // it does not occur or the room is exceeded.
-fn grow(room: &mut [u32], root: Root, action: Action, times: u32) -> Root
-    requires { Table room.old root.used × Rooted room.old root.place × root.place < root.used }
-    ensures { Table room.new result.used × Rooted room.new result.place × result.place < result.used }
+fn grow(room: &mut [u32], root: Root, action: &Action, times: u32) -> Root
+    requires { Stands room.old root }
+    ensures { Stands room.new result }
 {
     let mut last = root;
-    let mut i = 0;
-    while i < times {
-        let answer = room_execute::execute(room, last.place, action, 0, last.used);
-        let Executed::FollowUp(x) = answer else {
+    for _ in 0..times {
+        let Ok(x) = room_execute::execute(room, last, 0, action) else {
             return last;
         };
         if room.len() < x.used as usize {
             return last;
         }
         last = x;
-        i += 1;
     }
     last
 }
@@ -82,65 +51,51 @@ fn grow(room: &mut [u32], root: Root, action: Action, times: u32) -> Root
 // The execution rules on the chart at a root: the places in use with it and its depth, whether it terminates and evades
 // a lifeline, and whether pruning it and executing it once more exceed the room.
 fn ask(stdout: Stdout, room: &mut [u32], root: Root) -> io::Result<()>
-    requires { Table room.old root.used × Rooted room.old root.place × root.place < root.used }
+    requires { Stands room.old root }
 {
-    let place = root.place;
-    tell(
-        stdout,
-        root.used,
-        depth(room, place),
-        room_ask::terminates(room, place),
-        room_ask::evades(room, place, 1),
+    println!(stdout; "places {}", root.used)?;
+    println!(stdout; "depth {}", depth(room, root.place))?;
+    println!(stdout;
+        "terminates {}",
+        word(room_ask::terminates(room, root.place))
     )?;
-    let pruned = room_prune::prune(room, place, 1, root.used);
-    let Pruned::Part(part) = pruned else {
+    println!(stdout;
+        "evades lifeline 1 {}",
+        word(room_ask::evades(room, root.place, 1))
+    )?;
+    let Some(part) = room_prune::prune(room, root, 1) else {
         return Ok(());
     };
-    tell_pruned(stdout, room.len() < part.used as usize)?;
-    let action = Action {
+    let exceeds = word(room.len() < part.used as usize);
+    println!(stdout; "pruned by lifeline 1 it exceeds the room {exceeds}")?;
+    let Ok(x) = room_execute::execute(room, root, 0, &emission(1)) else {
+        return Ok(());
+    };
+    let exceeds = word(room.len() < x.used as usize);
+    println!(stdout; "executed by 0!1 it exceeds the room {exceeds}")
+}
+
+// 0!message.
+fn emission(message: u32) -> Action {
+    Action {
         lifeline: 0,
         receives: false,
-        message: 1,
-    };
-    let executed = room_execute::execute(room, place, action, 0, root.used);
-    let Executed::FollowUp(x) = executed else {
-        return Ok(());
-    };
-    tell_executed(stdout, room.len() < x.used as usize)
+        message,
+    }
 }
 
 // Lays the card, executes the log, and asks.
 fn run(stdout: Stdout, card: &[u8], room: &mut [u32]) -> io::Result<()>
     requires { length room.old ≤ 16384 }
 {
-    let checked = card_check::check(card);
-    if checked.number != number::OK {
-        return Ok(());
-    }
-    let laid = room_lay::lay(card, room);
-    let Laid::Whole(root) = laid else {
+    let Ok(()) = card_check::pass(card) else {
         return Ok(());
     };
-    let many = grow(
-        room,
-        root,
-        Action {
-            lifeline: 0,
-            receives: false,
-            message: 0,
-        },
-        125,
-    );
-    let all = grow(
-        room,
-        many,
-        Action {
-            lifeline: 0,
-            receives: false,
-            message: 1,
-        },
-        1,
-    );
+    let Some(root) = room_lay::lay(card, room) else {
+        return Ok(());
+    };
+    let many = grow(room, root, &emission(0), 125);
+    let all = grow(room, many, &emission(1), 1);
     ask(stdout, room, all)
 }
 

@@ -3,63 +3,31 @@
 // 1 it evades.
 #![tactic(auto)]
 
-ghost use Rattle.std.specs.Prelude.{◌<◌, ◌≤◌, length};
-ghost use Rattle.room_spec.specs.Room.{Table, Rooted, Kept};
+ghost use Rattle.std.specs.Prelude.{IfSome};
+ghost use Rattle.room_spec.specs.Room.{Rooted, Stands, Kept};
 
 use node::Node;
-use room_lay::Laid;
-use room_spec::{Action, Executed, Root};
+use room_spec::{Action, Root};
 use std::io;
 use std::io::Stdout;
 
-fn say(stdout: Stdout, text: &[u8]) -> io::Result<()> {
-    stdout.write_all(text)
-}
-
-fn nil(stdout: Stdout) -> io::Result<()> {
-    say(stdout, b"nil")
-}
-
-fn comma(stdout: Stdout) -> io::Result<()> {
-    say(stdout, b",")
-}
-
-fn close(stdout: Stdout) -> io::Result<()> {
-    say(stdout, b")")
-}
-
-fn write_name(stdout: Stdout, kind: u32) -> io::Result<()> {
+// What stands before the parts of a pair or of a loop.
+fn name(kind: u32) -> &'static str {
     match kind {
-        Node::STRICT => say(stdout, b"strict("),
-        Node::SEQ => say(stdout, b"seq("),
-        Node::PAR => say(stdout, b"par("),
-        Node::ALT => say(stdout, b"alt("),
-        Node::STRICT_LOOP => say(stdout, b"loops("),
-        Node::HEAD_LOOP => say(stdout, b"looph("),
-        Node::WEAK_LOOP => say(stdout, b"loopw("),
-        _ => say(stdout, b"loopp("),
+        Node::STRICT => "strict",
+        Node::SEQ => "seq",
+        Node::PAR => "par",
+        Node::ALT => "alt",
+        Node::STRICT_LOOP => "loops",
+        Node::HEAD_LOOP => "looph",
+        Node::WEAK_LOOP => "loopw",
+        _ => "loopp",
     }
 }
 
-fn write_action(stdout: Stdout, lifeline: u32, receives: bool, message: u32) -> io::Result<()> {
-    print!(stdout; "{lifeline}")?;
-    if receives {
-        say(stdout, b"?")?;
-    } else {
-        say(stdout, b"!")?;
-    }
-    print!(stdout; "{message}")
-}
-
-fn indent(stdout: Stdout) -> io::Result<()> {
-    say(stdout, b"    ")
-}
-
-// A line for an action whose follow-ups are to come.
-fn write_question(stdout: Stdout, action: Action) -> io::Result<()> {
-    say(stdout, b"  ")?;
-    write_action(stdout, action.lifeline, action.receives, action.message)?;
-    say(stdout, b"\n")
+fn write_action(stdout: Stdout, action: Action) -> io::Result<()> {
+    let mark = if action.receives { '?' } else { '!' };
+    print!(stdout; "{}{mark}{}", action.lifeline, action.message)
 }
 
 // The chart at a place.
@@ -67,85 +35,73 @@ fn write_chart(stdout: Stdout, room: &[u32], place: u32) -> io::Result<()>
     requires { Rooted room.now place }
 {
     let node = room_places::read(room, place);
-    let kind = node.kind;
-    match kind {
-        Node::EMISSION..=Node::RECEPTION => {
-            write_action(stdout, node.a, kind == Node::RECEPTION, node.b)
-        }
+    match node.kind {
+        Node::EMISSION..=Node::RECEPTION => write_action(
+            stdout,
+            Action {
+                lifeline: node.a,
+                receives: node.kind == Node::RECEPTION,
+                message: node.b,
+            },
+        ),
         Node::STRICT..=Node::ALT => {
-            write_name(stdout, kind)?;
+            print!(stdout; "{}(", name(node.kind))?;
             write_chart(stdout, room, node.a)?;
-            comma(stdout)?;
+            print!(stdout; ",")?;
             write_chart(stdout, room, node.b)?;
-            close(stdout)
+            print!(stdout; ")")
         }
         Node::STRICT_LOOP..=Node::PAR_LOOP => {
-            write_name(stdout, kind)?;
+            print!(stdout; "{}(", name(node.kind))?;
             write_chart(stdout, room, node.a)?;
-            close(stdout)
+            print!(stdout; ")")
         }
-        _ => nil(stdout),
+        _ => print!(stdout; "nil"),
     }
-}
-
-fn write_figures(
-    stdout: Stdout,
-    used: u32,
-    terminates: bool,
-    evades_0: bool,
-    evades_1: bool,
-) -> io::Result<()> {
-    say(stdout, b" ")?;
-    print!(stdout; "{used}")?;
-    if terminates {
-        say(stdout, b" terminates")?;
-    }
-    if evades_0 {
-        say(stdout, b" evades-0")?;
-    }
-    if evades_1 {
-        say(stdout, b" evades-1")?;
-    }
-    say(stdout, b"\n")
 }
 
 // A line for a part: its chart, the places in use with it, whether it terminates, what it evades.
-fn write_line(stdout: Stdout, room: &[u32], place: u32, used: u32) -> io::Result<()>
-    requires { Rooted room.now place }
+fn write_line(stdout: Stdout, room: &[u32], root: Root) -> io::Result<()>
+    requires { Rooted room.now root.place }
 {
-    write_chart(stdout, room, place)?;
-    write_figures(
-        stdout,
-        used,
-        room_ask::terminates(room, place),
-        room_ask::evades(room, place, 0),
-        room_ask::evades(room, place, 1),
-    )
+    write_chart(stdout, room, root.place)?;
+    print!(stdout; " {}", root.used)?;
+    if room_ask::terminates(room, root.place) {
+        print!(stdout; " terminates")?;
+    }
+    if room_ask::evades(room, root.place, 0) {
+        print!(stdout; " evades-0")?;
+    }
+    if room_ask::evades(room, root.place, 1) {
+        print!(stdout; " evades-1")?;
+    }
+    println!(stdout)
+}
+
+// Follow-up k of a part by an action; nothing if there is none, or if it exceeds the room.
+fn follow_up(room: &mut [u32], root: Root, action: Action, k: u32) -> Option<Root>
+    requires { Stands room.old root }
+    ensures kept { Kept root.used room.old room.new }
+    ensures stands { IfSome result (λ x. Stands room.new x) }
+{
+    let x = room_execute::execute(room, root, k, &action).ok()?;
+    if room.len() < x.used as usize {
+        return None;
+    }
+    Some(x)
 }
 
 // The follow-ups of a part by an action, each built above the same places in use.
-fn write_follow_ups(
-    stdout: Stdout,
-    room: &mut [u32],
-    place: u32,
-    action: Action,
-    used: u32,
-) -> io::Result<()>
-    requires { Table room.old used × Rooted room.old place × place < used }
-    ensures { Kept used room.old room.new }
+fn write_follow_ups(stdout: Stdout, room: &mut [u32], root: Root, action: Action) -> io::Result<()>
+    requires { Stands room.old root }
+    ensures { Kept root.used room.old room.new }
 {
-    let mut k = 0;
-    while k < 4 {
-        let answer = room_execute::execute(room, place, action, k, used);
-        let Executed::FollowUp(x) = answer else {
+    for k in 0..4 {
+        let Some(x) = follow_up(room, root, action, k) else {
             return Ok(());
         };
-        if room.len() < x.used as usize {
-            return Ok(());
-        }
-        indent(stdout)?;
-        write_line(stdout, room, x.place, x.used)?;
-        k += 1;
+        print!(stdout; "    ")?;
+        write_line(stdout, room, x)?;
     }
     Ok(())
 }
@@ -153,48 +109,34 @@ fn write_follow_ups(
 // Follows the chart at a root by steps of three bytes: the action's two bytes as in a log, and the number of the
 // follow-up to go on with.
 fn walk(stdout: Stdout, room: &mut [u32], root: Root, steps: &[u8]) -> io::Result<()>
-    requires { Table room.old root.used × Rooted room.old root.place × root.place < root.used }
+    requires { Stands room.old root }
 {
-    let mut place = root.place;
-    let mut used = root.used;
-    let mut i = 0;
-    while i + 3 <= steps.len() {
-        let action = log_bytes::action_of(steps[i], steps[i + 1]);
-        write_question(stdout, action)?;
-        write_follow_ups(stdout, room, place, action, used)?;
-        let answer = room_execute::execute(room, place, action, number::wide(steps[i + 2]), used);
-        let Executed::FollowUp(x) = answer else {
+    let mut part = root;
+    for step in steps.chunks_exact(3) {
+        let action = log_bytes::action_of(step[0], step[1]);
+        print!(stdout; "  ")?;
+        write_action(stdout, action)?;
+        println!(stdout)?;
+        write_follow_ups(stdout, room, part, action)?;
+        let Some(x) = follow_up(room, part, action, u32::from(step[2])) else {
             return Ok(());
         };
-        if room.len() < x.used as usize {
-            return Ok(());
-        }
-        place = x.place;
-        used = x.used;
-        i += 3;
+        part = x;
     }
     Ok(())
 }
 
 // A card's chart, and what these steps make of it.
-fn show_in(stdout: Stdout, card: &[u8], steps: &[u8], room: &mut [u32]) -> io::Result<()>
-    requires { length room.old ≤ 16384 }
-{
-    let checked = card_check::check(card);
-    if checked.number != number::OK {
-        return Ok(());
-    }
-    let laid = room_lay::lay(card, room);
-    let Laid::Whole(root) = laid else {
-        return Ok(());
-    };
-    write_line(stdout, room, root.place, root.used)?;
-    walk(stdout, room, root, steps)
-}
-
 fn show(stdout: Stdout, card: &[u8], steps: &[u8]) -> io::Result<()> {
     let mut room = [0u32; 64];
-    show_in(stdout, card, steps, &mut room)
+    let Ok(()) = card_check::pass(card) else {
+        return Ok(());
+    };
+    let Some(root) = room_lay::lay(card, &mut room) else {
+        return Ok(());
+    };
+    write_line(stdout, &room, root)?;
+    walk(stdout, &mut room, root, steps)
 }
 
 // The charts of 01's table: empty, S, par(0!0, 0!0), alt(0!0, S), head loop of K and weak loop of K. They show these of

@@ -10,6 +10,7 @@ ghost use Rattle.room_spec.specs.Room.{chart_in, Rooted};
 ghost use Rattle.write_spec.specs.Cards.{trailer_of, card_bytes, card_of, Holds};
 ghost use Rattle.write_card.specs.Outputs.{Storable, Stores, Writable, Writes};
 
+use card_spec::Counts;
 use node::Node;
 
 // How many nodes a part has.
@@ -18,8 +19,7 @@ fn count(room: &[u32], place: u32) -> u32
     ensures { result ≡ size (chart_in room.now place) }
 {
     let node = room_places::read(room, place);
-    let kind = node.kind;
-    match kind {
+    match node.kind {
         Node::STRICT..=Node::ALT => count(room, node.a) + count(room, node.b) + 1,
         Node::STRICT_LOOP..=Node::PAR_LOOP => count(room, node.a) + 1,
         _ => 1,
@@ -42,14 +42,14 @@ fn store(out: &mut [u8], at: usize, byte: u8)
 }
 
 // Stores the record of the node with that number, and returns the next node's number.
-fn put(out: &mut [u8], number: u32, kind: u32, a: u32, b: u32) -> u32
-    requires { Storable (record { kind = kind; a = a; b = b }) number out.old }
-    ensures { Stores (record { kind = kind; a = a; b = b }) number out.old result out.new }
+fn put(out: &mut [u8], number: u32, node: Node) -> u32
+    requires { Storable node number out.old }
+    ensures { Stores node number out.old result out.new }
 {
     let at = number as usize * Node::NODE_BYTES;
-    store(out, at, kind as u8);
-    store(out, at + 1, a as u8);
-    store(out, at + 2, b as u8);
+    store(out, at, node.kind as u8);
+    store(out, at + 1, node.a as u8);
+    store(out, at + 2, node.b as u8);
     store(out, at + 3, 0);
     number + 1
 }
@@ -61,42 +61,41 @@ fn write(room: &[u32], place: u32, out: &mut [u8], first: u32) -> u32
     ensures { Writes (chart_in room.now place) first out.old result out.new }
 {
     let node = room_places::read(room, place);
-    let kind = node.kind;
-    match kind {
-        Node::EMISSION..=Node::RECEPTION => put(out, first, kind, node.a, node.b),
+    match node.kind {
+        Node::EMISSION..=Node::RECEPTION => put(out, first, node),
         Node::STRICT..=Node::ALT => {
             let right = write(room, node.a, out, first);
             let parent = write(room, node.b, out, right);
-            put(out, parent, kind, right - 1, parent - 1)
+            put(out, parent, Node::new(node.kind, right - 1, parent - 1))
         }
         Node::STRICT_LOOP..=Node::PAR_LOOP => {
             let parent = write(room, node.a, out, first);
-            put(out, parent, kind, parent - 1, 0)
+            put(out, parent, Node::new(node.kind, parent - 1, 0))
         }
-        _ => put(out, first, Node::EMPTY, 0, 0),
+        _ => put(out, first, Node::new(Node::EMPTY, 0, 0)),
     }
 }
 
 // Stores the trailer after nodes that take `back` bytes.
-fn put_trailer(out: &mut [u8], back: usize, lifelines: u32, messages: u32)
-    requires { back + 6 ≤ length out.old × back < 65536 × lifelines < 256 × messages < 256 }
-    ensures { out.new ≡ sets out.old back (trailer_of back lifelines messages) }
+fn put_trailer(out: &mut [u8], back: usize, counts: Counts)
+    requires { back + 6 ≤ length out.old × back < 65536 × counts.lifelines < 256 × counts.messages < 256 }
+    ensures { out.new ≡ sets out.old back (trailer_of back counts.lifelines counts.messages) }
 {
     store(out, back, (back % 256) as u8);
     store(out, back + 1, (back / 256) as u8);
-    store(out, back + 2, lifelines as u8);
-    store(out, back + 3, messages as u8);
+    store(out, back + 2, counts.lifelines as u8);
+    store(out, back + 3, counts.messages as u8);
     store(out, back + 4, 0x57);
     store(out, back + 5, 0x4C);
 }
 
 // Writes the card of a part, with these counts, to the first bytes of an output that is long enough.
-pub fn write_card(room: &[u32], place: u32, lifelines: u32, messages: u32, out: &mut [u8])
-    requires { Rooted room.now place × Holds lifelines messages (chart_in room.now place)
+pub fn write_card(room: &[u32], place: u32, counts: Counts, out: &mut [u8])
+    requires { Rooted room.now place × Holds counts.lifelines counts.messages (chart_in room.now place)
         × card_bytes (chart_in room.now place) ≤ length out.old }
-    ensures { out.new ≡ card_of lifelines messages (chart_in room.now place)
+    ensures { out.new ≡ card_of counts.lifelines counts.messages (chart_in room.now place)
         ++ drop (card_bytes (chart_in room.now place)) out.old }
 {
     let nodes = write(room, place, out, 0);
-    put_trailer(out, nodes as usize * Node::NODE_BYTES, lifelines, messages);
+    put_trailer(out, nodes as usize * Node::NODE_BYTES, counts);
 }

@@ -3,7 +3,7 @@
 -- four bytes.
 -- Assumes nothing.
 use Prim.Native.Nat.{ℕ, zero, suc, ◌+◌, ◌-◌, ◌*◌, ◌%◌, ◌<◌, ◌≤◌}
-use mathlib.Core.Bool.{true, cond}
+use mathlib.Core.Bool.{true}
 use mathlib.Core.List.{List, [], ◌∷◌, ◌++◌}
 use mathlib.Core.Path.{◌≡◌, refl, ap, sym, ◌∙◌}
 use native.Mathlib.Omega.{arith}
@@ -14,18 +14,12 @@ use Rattle.chart_spec.specs.Chart.{Chart, size}
 use Rattle.node.specs.declared.Node.{Node}
 use Rattle.node_spec.specs.Kind.{kind_of}
 use Rattle.node_spec.specs.Row.{chart, uses}
-use Rattle.card_spec.specs.declared.Finding.TheVariants.{Fine}
+use Rattle.std.specs.Prelude.{Ok}
+use Rattle.number.specs.declared.Refusal.TheVariants.{FaultyNode, MisusedNode}
 use Rattle.card_spec.specs.Parts.{trailer_byte, trailer_at, first_at, back_of, lifelines_of, messages_of, nodes_of}
 use Rattle.card_spec.specs.Nodes.{count_of, node_at, spare_at, row_to, row_of, card_row, card_chart}
 use Rattle.card_spec.specs.Figures.{depth_of}
-use Rattle.card_spec.specs.Findings.{
-  in_order,
-  in_order_as,
-  fault_of,
-  misuse_of,
-  faulty,
-  misused,
-}
+use Rattle.card_spec.specs.Findings.{in_order, in_order_as, orderly, used_once, faulty, misused}
 use Rattle.card_spec.specs.Table.{Sound}
 use Rattle.card_spec.proofs.Trailers.{trailer_there}
 use Rattle.card_spec.proofs.Lowest.{none→fine}
@@ -197,18 +191,18 @@ module _ (lifelines messages : ℕ) (c : Chart) where
         ∙ orderly_at lifelines messages 0 (written 0 c) i blank
         (written_orderly lifelines messages 0 c holds.declared) inside
 
-    no_faults : faulty (lifelines_of card) (messages_of card) (nodes_of card) ≡ Fine
+    no_faults : faulty (lifelines_of card) (messages_of card) (nodes_of card) ≡ Ok tt
     no_faults =
-        none→fine (fault_of (lifelines_of card) (messages_of card) (nodes_of card)) (count_of (nodes_of card))
-        (λ i h. ap (λ ok. cond ok 0 4) (in_order_lem i h))
+        none→fine (orderly (lifelines_of card) (messages_of card) (nodes_of card)) FaultyNode (count_of (nodes_of card))
+        in_order_lem
 
-    no_misuse : misused (nodes_of card) ≡ Fine
+    no_misuse : misused (nodes_of card) ≡ Ok tt
     no_misuse =
-        none→fine (misuse_of (card_row card)) (count_of (nodes_of card) - 1)
+        none→fine (used_once (card_row card)) MisusedNode (count_of (nodes_of card) - 1)
         (λ j h.
         let once : uses (card_row card) j ≡ 1
         = ap (λ r. uses r j) nodes_as_written ∙ written_uses_each_once c j (omega (arith, count)) in
-        ap (λ ok. cond ok 0 5) (eq-eqb (uses (card_row card) j) 1 once))
+        eq-eqb (uses (card_row card) j) 1 once)
 
     -- A card that holds its chart is sound.
     pub written_is_sound : Sound card

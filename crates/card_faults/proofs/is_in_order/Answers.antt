@@ -9,7 +9,7 @@ use Rattle.card_faults.proofs.is_in_order.Goals as goal
 pub returns-then-n-eq0 : goal.returns-then-n-eq0
 returns-then-n-eq0 c =
     rw (
-      eq-eqb _ _ c.if-c-ne0.false,
+      eq-eqb _ _ c.if-c-eq0.true,
       zero_is_nothing _ c.in-0.is,
       eq-eqb _ _ c.if-n-eq0.true,
     )
@@ -17,31 +17,31 @@ returns-then-n-eq0 c =
 pub returns-else-n-eq0 : goal.returns-else-n-eq0
 returns-else-n-eq0 c =
     rw (
-      eq-eqb _ _ c.if-c-ne0.false,
+      eq-eqb _ _ c.if-c-eq0.true,
       zero_is_nothing _ c.in-0.is,
       ne_eqb _ _ c.if-n-eq0.false,
     )
 
-pub returns-then-n-lifelines : goal.returns-then-n-lifelines
-returns-then-n-lifelines c =
+pub returns-then-n-counts : goal.returns-then-n-counts
+returns-then-n-counts c =
     let s = c.args in
     let (r, e) = one_and_two_are_actions s.n.kind
     (omega arith) (omega arith) in
-    rw (eq-eqb _ _ c.if-c-ne0.false, e, lt-ltb _ _ c.if-n-lifelines.true)
+    rw (eq-eqb _ _ c.if-c-eq0.true, e, lt-ltb _ _ c.if-n-counts.true)
 
-pub returns-else-n-lifelines : goal.returns-else-n-lifelines
-returns-else-n-lifelines c =
+pub returns-else-n-counts : goal.returns-else-n-counts
+returns-else-n-counts c =
     let s = c.args in
     let (r, e) = one_and_two_are_actions s.n.kind (omega arith)
     (omega arith) in
-    rw (eq-eqb _ _ c.if-c-ne0.false, e, le-ltb _ _ c.if-n-lifelines.false)
+    rw (eq-eqb _ _ c.if-c-eq0.true, e, le-ltb _ _ c.if-n-counts.false)
 
 pub returns-then-n-i : goal.returns-then-n-i
 returns-then-n-i c =
     let s = c.args in
     let (p, e) = three_to_six_are_pairs s.n.kind (omega arith) (omega arith) in
     rw (
-      eq-eqb _ _ c.if-c-ne0.false,
+      eq-eqb _ _ c.if-c-eq0.true,
       e,
       lt-ltb _ _ c.if-n-i.true,
     )
@@ -50,14 +50,14 @@ pub returns-else-n-i : goal.returns-else-n-i
 returns-else-n-i c =
     let s = c.args in
     let (p, e) = three_to_six_are_pairs s.n.kind (omega arith) (omega arith) in
-    rw (eq-eqb _ _ c.if-c-ne0.false, e, le-ltb _ _ c.if-n-i.false)
+    rw (eq-eqb _ _ c.if-c-eq0.true, e, le-ltb _ _ c.if-n-i.false)
 
 pub returns-then-n-eq0-2 : goal.returns-then-n-eq0-2
 returns-then-n-eq0-2 c =
     let s = c.args in
     let (k, e) = seven_to_ten_are_loops s.n.kind (omega arith) (omega arith) in
     rw (
-      eq-eqb _ _ c.if-c-ne0.false,
+      eq-eqb _ _ c.if-c-eq0.true,
       e,
       eq-eqb _ _ c.if-n-eq0-2.true,
     )
@@ -66,8 +66,8 @@ pub returns-else-n-eq0-2 : goal.returns-else-n-eq0-2
 returns-else-n-eq0-2 c =
     let s = c.args in
     let (k, e) = seven_to_ten_are_loops s.n.kind (omega arith) (omega arith) in
-    rw (eq-eqb _ _ c.if-c-ne0.false, e, ne_eqb _ _ c.if-n-eq0-2.false)
+    rw (eq-eqb _ _ c.if-c-eq0.true, e, ne_eqb _ _ c.if-n-eq0-2.false)
 
 pub returns-in_default : goal.returns-in_default
 returns-in_default c =
-    rw (eq-eqb _ _ c.if-c-ne0.false, above_ten_is_unknown c.args.n.kind (omega arith))
+    rw (eq-eqb _ _ c.if-c-eq0.true, above_ten_is_unknown c.args.n.kind (omega arith))

@@ -1,12 +1,9 @@
--- Every node before i is fine; the nodes that are left get fewer. Assumes nothing.
-use Prim.Native.Nat.{◌≤◌, ◌-◌}
+-- Every node before i is in order. Assumes nothing.
 use mathlib.Core.Path.{◌≡◌}
-use Rattle.card_spec.specs.declared.Finding.TheVariants.{Fine}
-use Rattle.card_spec.specs.Findings.{fault_of, lowest}
+use Rattle.std.specs.Prelude.{Ok}
+use Rattle.number.specs.declared.Refusal.TheVariants.{FaultyNode}
+use Rattle.card_spec.specs.Findings.{orderly, lowest}
 use Rattle.card_faults.proofs.lowest_faulty.Given as goal
 
 abbrev pub invariant-loop-i : goal.invariant-loop-i
-invariant-loop-i l = (l.i ≤ l.count) × (lowest (fault_of l.lifelines l.messages l.nodes) l.i ≡ Fine)
-
-abbrev pub decreases-loop-i : goal.decreases-loop-i
-decreases-loop-i l = l.count - l.i
+invariant-loop-i l = lowest (orderly l.counts.lifelines l.counts.messages l.nodes) FaultyNode l.i ≡ Ok tt

@@ -20,15 +20,13 @@ pub overflow_shl-result : goal.overflow_shl-result
 overflow_shl-result c =
     held (goal.at.overflow_shl-result c).In-1-to-2
 
-pub returns-in-0 : goal.returns-in-0
-returns-in-0 c =
-    sym (no_actor_in_nothing c.args.n c.in-0.is)
-
 pub returns-in-1-to-2 : goal.returns-in-1-to-2
 returns-in-1-to-2 c =
     sym (one_actor c.args.n (omega arith)
     (omega arith) (held (goal.at.returns-in-1-to-2 c).In-1-to-2))
 
+pub returns-in-0 : goal.returns-in-0
+returns-in-0 c = sym (no_actor_in_nothing c.args.n c.in-0.is)
+
 pub returns-in_default : goal.returns-in_default
-returns-in_default c =
-    sym (no_actor_above c.args.n (omega arith))
+returns-in_default c = sym (no_actor_above c.args.n (omega arith))

@@ -7,4 +7,4 @@ pub returns-then-size-lt-TRAILER_BYTES : goal.returns-then-size-lt-TRAILER_BYTES
 returns-then-size-lt-TRAILER_BYTES c = sym (no_trailer _ _ c.if-size-lt-TRAILER_BYTES.true)
 
 pub returns : goal.returns
-returns c = c.wide.ensures ∙ sym (trailer_there _ _ c.if-size-lt-TRAILER_BYTES.false)
+returns c = c.from.ensures ∙ sym (trailer_there _ _ c.if-size-lt-TRAILER_BYTES.false)

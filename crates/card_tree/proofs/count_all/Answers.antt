@@ -16,19 +16,16 @@ low c =
     (c.requires.0.lower i (omega arith)))
 
 pub loop-i-init : goal.loop-i-init
-loop-i-init c =
-    (omega arith, rw c.requires.1 (none_counted c.args.nodes.now))
+loop-i-init c = rw c.requires.1 (none_counted c.args.nodes.now)
 
 pub count_children-requires : goal.count_children-requires
 count_children-requires c =
     let at = c.loop-i in
-    (low c, counts_are_small c.args.nodes.now at.i at.counts (omega (arith, c.requires.0.few)) at.invariant.1)
+    (low c, counts_are_small c.args.nodes.now at.i at.counts (omega (arith, c.requires.0.few)) at.invariant)
 
 pub loop-i-preserved : goal.loop-i-preserved
 loop-i-preserved c =
     let nodes = c.args.nodes.now in
-    let at = c.loop-i in (
-      omega arith,
-      one_more_counted nodes at.i at.counts _ _ c.node_at.ensures c.count_children.ensures
-          (low (goal.at.loop-i-preserved c).After-node_at) at.invariant.1,
-    )
+    let at = c.loop-i in
+    one_more_counted nodes at.i at.counts _ _ c.node_at.ensures c.count_children.ensures
+    (low (goal.at.loop-i-preserved c).After-node_at) at.invariant

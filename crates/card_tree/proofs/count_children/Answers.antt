@@ -46,6 +46,6 @@ returns-in-7-to-10 c =
     let n = c.args.n in
     rw (children_of_a_loop n (omega arith) (omega arith)) c.count_child-in-7-to-10.ensures
 
-pub returns-else-kind-lt11 : goal.returns-else-kind-lt11
-returns-else-kind-lt11 c =
+pub returns-else-n-lt11 : goal.returns-else-n-lt11
+returns-else-n-lt11 c =
     rw (children_of_the_unknown c.args.n (omega arith))

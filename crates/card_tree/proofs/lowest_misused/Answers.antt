@@ -1,34 +1,24 @@
--- `lowest_misused` meets its contract: every node before j is a child once, and the loop stops at the first that is
--- not. Assumes nothing.
+-- `lowest_misused` meets its contract: the counts below the root are all 1, or the lowest that is not refuses its node.
+-- Assumes nothing.
 use Prim.Native.Nat.{◌-◌}
-use mathlib.Core.Path.{◌≡◌, sym, ◌∙◌, ap}
+use mathlib.Core.Path.{sym}
 use native.Mathlib.Omega.{arith}
-use lib.ListN.{get_or}
-use Rattle.node_spec.specs.Row.{uses}
-use Rattle.card_spec.specs.declared.Finding.TheVariants.{Refused}
-use Rattle.card_spec.specs.Nodes.{count_of, row_of}
-use Rattle.card_spec.specs.Findings.{misuse_of}
-use Rattle.card_spec.proofs.Lowest.{found_here}
-use Rattle.card_tree.proofs.Counts.{misused_as_counted}
+use Rattle.card_spec.specs.Nodes.{row_of}
+use Rattle.card_tree.proofs.Counts.{some_misused, none_misused}
 use Rattle.card_tree.proofs.lowest_misused.Goals as goal
-use Rattle.card_tree.proofs.lowest_misused.Goals.{In-loop-j}
 
--- The count read for node j.
-counted :
-    (c : In-loop-j)
-    → get_or c.count_all.new.counts c.loop-j.j 0
-    ≡ uses (row_of c.args.nodes.now) c.loop-j.j
-counted c = c.count_all.ensures c.loop-j.j
-    (omega (arith, c.requires.few))
+pub returns-in-Some : goal.returns-in-Some
+returns-in-Some c =
+    let (inside, other, ones) = c.in-Some.ensures in
+    rw c.count-root.ensures at
+    (sym
+    (some_misused (row_of c.args.nodes.now) c.count_all.new.counts (c.count-root.result - 1)
+    (omega (arith, c.requires.few)) (λ j h. c.count_all.ensures j (omega (arith, c.requires.few))) c.in-Some.j inside
+    other ones))
 
-pub returns-then-counts-j-ne1 : goal.returns-then-counts-j-ne1
-returns-then-counts-j-ne1 c =
-    let nodes = c.args.nodes.now in
-    let at = c.loop-j in
-    let bad : misuse_of (row_of nodes) at.j ≡ 5
-    = misused_as_counted (row_of nodes) at.j _ (counted (goal.at.returns-then-counts-j-ne1 c).In-loop-j)
-    c.if-counts-j-ne1.true in
-    ap (λ number. Refused number at.j) (sym bad)
-    ∙ sym
-    (found_here (misuse_of (row_of nodes)) at.j (count_of nodes - 1) (omega arith) at.invariant.1
-    (λ e. omega arith))
+pub returns-in-None : goal.returns-in-None
+returns-in-None c =
+    rw c.count-root.ensures at
+    (sym
+    (none_misused (row_of c.args.nodes.now) c.count_all.new.counts (c.count-root.result - 1)
+    (omega (arith, c.requires.few)) (λ j h. c.count_all.ensures j (omega (arith, c.requires.few))) c.in-None.ensures))

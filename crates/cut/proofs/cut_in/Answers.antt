@@ -2,7 +2,7 @@
 -- output is long enough for its card. Assumes nothing.
 use mathlib.Core.Path.{◌∙◌}
 use native.Mathlib.Omega.{arith}
-use Rattle.room_spec.specs.declared.Pruned.TheVariants.{Nothing}
+use Rattle.std.specs.Prelude.{None}
 use Rattle.cut.proofs.Leaving.{
   few_places,
   asks_pruning,
@@ -14,28 +14,28 @@ use Rattle.cut.proofs.Leaving.{
 }
 use Rattle.cut_spec.proofs.Refusing.{never_avoided, too_short, card_made}
 use Rattle.cut.proofs.cut_in.Goals as goal
-use Rattle.cut.proofs.cut_in.Goals.{In-Part}
+use Rattle.cut.proofs.cut_in.Goals.{In-Some}
 
 -- What is left of the chart.
 left :
-    (c : In-Part)
+    (c : In-Some)
     → Left c.args.card.now c.args.lifeline
-    c.prune-pruned.new.room c.in-Part.part.place
+    c.prune.new.room c.in-Some.part.place
 left c =
     let s = c.args in
     let (sound, declared, long) = c.requires in
     let laid = c.lay_whole-root in
     part_left s.card.now sound s.lifeline s.room.now long laid.result laid.ensures.0
-    laid.new.room laid.ensures.1 c.prune-pruned.new.room c.in-Part.part
-    (rw c.in-Part.is at c.prune-pruned.ensures)
+    laid.new.room laid.ensures.1 c.prune.new.room c.in-Some.part
+    (rw c.in-Some.is at c.prune.ensures)
 
 pub lay_whole-root-requires : goal.lay_whole-root-requires
 lay_whole-root-requires c =
     let (sound, declared, long) = c.requires in
     (sound, omega (arith, few_places c.args.card.now sound), omega arith)
 
-pub prune-pruned-requires : goal.prune-pruned-requires
-prune-pruned-requires c =
+pub prune-requires : goal.prune-requires
+prune-requires c =
     let s = c.args in
     let (sound, declared, long) = c.requires in
     let laid = c.lay_whole-root in
@@ -47,38 +47,38 @@ returns-in_default c =
     let s = c.args in
     let (sound, declared, long) = c.requires in
     let laid = c.lay_whole-root in
-    let lost = rw c.in_default.is at c.prune-pruned.ensures in
+    let lost = rw c.in_default.is at c.prune.ensures in
     let (answer, out) =
     never_avoided s.card.now s.lifeline s.out.now sound declared
     (found_by_pruning s.card.now sound s.lifeline s.room.now long laid.result laid.ensures.0
-    laid.new.room laid.ensures.1 c.prune-pruned.new.room Nothing lost) in
-    (c.refused.ensures ∙ answer, out)
+    laid.new.room laid.ensures.1 c.prune.new.room None lost) in
+    (c.from.ensures ∙ answer, out)
 
 pub card_bytes-length-requires : goal.card_bytes-length-requires
 card_bytes-length-requires c = asks_counting c.requires.0 (left c)
 
 pub returns-then-out-length : goal.returns-then-out-length
 returns-then-out-length c =
-    let in_part = (goal.at.returns-then-out-length c).In-Part in
+    let in_part = (goal.at.returns-then-out-length c).In-Some in
     let s = in_part.args in
     let (sound, declared, long) = in_part.requires in
     let part = left in_part in
     let bytes = rw part.stands at c.card_bytes-length.ensures in
     let (answer, out) =
     too_short s.card.now s.lifeline s.out.now sound declared part.evading (omega arith) in
-    (c.refused-then-out-length.ensures ∙ answer, out)
+    (c.from-then-out-length.ensures ∙ answer, out)
 
 pub write_card-requires : goal.write_card-requires
 write_card-requires c =
-    let in_part = (goal.at.write_card-requires c).In-Part in
-    asks_writing in_part.requires.0 (left in_part) c.lifelines-lifelines.result
-    c.messages-messages.result in_part.args.out.now
-    c.lifelines-lifelines.ensures c.messages-messages.ensures
+    let in_part = (goal.at.write_card-requires c).In-Some in
+    asks_writing in_part.requires.0 (left in_part) c.counts-counts.result.lifelines
+    c.counts-counts.result.messages in_part.args.out.now
+    c.counts-counts.ensures.lifelines c.counts-counts.ensures.messages
     (omega (arith, c.card_bytes-length.ensures))
 
 pub overflow_cast-result : goal.overflow_cast-result
 overflow_cast-result c =
-    let in_part = (goal.at.overflow_cast-result c).In-Part in
+    let in_part = (goal.at.overflow_cast-result c).In-Some in
     omega (
       arith,
       c.card_bytes-length.ensures,
@@ -88,12 +88,12 @@ overflow_cast-result c =
 
 pub returns : goal.returns
 returns c =
-    let in_part = (goal.at.returns c).In-Part in
+    let in_part = (goal.at.returns c).In-Some in
     let s = in_part.args in
     let (sound, declared, long) = in_part.requires in
     let part = left in_part in
     let bytes = rw part.stands at c.card_bytes-length.ensures in
-    let wrote = rw (part.stands, c.lifelines-lifelines.ensures, c.messages-messages.ensures) at
+    let wrote = rw (part.stands, c.counts-counts.ensures.lifelines, c.counts-counts.ensures.messages) at
     c.write_card.ensures in
     card_made s.card.now s.lifeline s.out.now sound declared part.evading
     c.card_bytes-length.result

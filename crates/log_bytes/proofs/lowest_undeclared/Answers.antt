@@ -2,28 +2,32 @@
 -- Assumes nothing.
 use mathlib.Core.Path.{◌≡◌, sym, ap, ◌∙◌}
 use native.Mathlib.Omega.{arith}
-use Rattle.chart_spec.proofs.Tests.{test_failed}
-use Rattle.log_spec.specs.Bytes.{actions_of, action_at}
-use Rattle.log_spec.specs.Refusing.{declared}
-use Rattle.log_spec.proofs.Rules.{undeclared_is_found}
+use Rattle.number.specs.declared.Refusal.TheVariants.{UndeclaredAction}
+use Rattle.card_spec.proofs.Lowest.{fine_so_far, found_here}
+use Rattle.log_spec.specs.Bytes.{actions_of}
+use Rattle.log_spec.specs.Refusing.{declared, declared_at}
 use Rattle.log_bytes.proofs.lowest_undeclared.Goals as goal
 use Rattle.log_bytes.proofs.lowest_undeclared.Goals.{After-is_declared}
 
 -- What the test of action i answered.
 asked : (c : After-is_declared)
     → c.is_declared.result
-    ≡ declared c.args.lifelines
-    c.args.messages (action_at
-    c.args.log.now c.loop-i.i)
+    ≡ declared_at c.args.counts.lifelines c.args.counts.messages c.args.log.now c.loop-i.i
 asked c =
-    let s = c.args in
-    c.is_declared.ensures ∙ ap (declared s.lifelines s.messages) c.action_at-action.ensures
+    let s = c.args.counts in
+    c.is_declared.ensures ∙ ap (declared s.lifelines s.messages) c.action_at.ensures
 
 pub returns-then-not-is_declared : goal.returns-then-not-is_declared
 returns-then-not-is_declared c =
-    let s = c.args in
-    let at = c.loop-i in
+    let s = c.args.counts in
+    let log = c.args.log.now in
     sym
-    (undeclared_is_found s.lifelines s.messages s.log.now at.i at.invariant.1 (actions_of s.log.now)
-    (omega arith) (test_failed (asked (goal.at.returns-then-not-is_declared c).After-is_declared)
-    c.if-not-is_declared.true-raw))
+    (found_here (declared_at s.lifelines s.messages log) UndeclaredAction c.loop-i.i (actions_of log) (omega arith)
+    c.loop-i.invariant
+    (sym (asked (goal.at.returns-then-not-is_declared c).After-is_declared) ∙ c.if-not-is_declared.true))
+
+pub loop-i-preserved : goal.loop-i-preserved
+loop-i-preserved c =
+    let s = c.args.counts in
+    fine_so_far (declared_at s.lifelines s.messages c.args.log.now) UndeclaredAction c.loop-i.i c.loop-i.invariant
+    (sym (asked (goal.at.loop-i-preserved c).After-is_declared) ∙ c.if-not-is_declared.false)

@@ -1,13 +1,11 @@
--- Every action before i is declared; the actions that are left get fewer. Assumes nothing.
-use Prim.Native.Nat.{◌≤◌, ◌-◌}
+-- Every action before i is declared. Assumes nothing.
 use mathlib.Core.Path.{◌≡◌}
-use Rattle.card_spec.specs.declared.Finding.TheVariants.{Fine}
+use Rattle.std.specs.Prelude.{Ok}
+use Rattle.number.specs.declared.Refusal.TheVariants.{UndeclaredAction}
 use Rattle.card_spec.specs.Findings.{lowest}
-use Rattle.log_spec.specs.Refusing.{undeclared_of}
+use Rattle.log_spec.specs.Refusing.{declared_at}
 use Rattle.log_bytes.proofs.lowest_undeclared.Given as goal
 
 abbrev pub invariant-loop-i : goal.invariant-loop-i
-invariant-loop-i l = (l.i ≤ l.count) × (lowest (undeclared_of l.lifelines l.messages l.log) l.i ≡ Fine)
-
-abbrev pub decreases-loop-i : goal.decreases-loop-i
-decreases-loop-i l = l.count - l.i
+invariant-loop-i l =
+    lowest (declared_at l.counts.lifelines l.counts.messages l.log) UndeclaredAction l.i ≡ Ok tt

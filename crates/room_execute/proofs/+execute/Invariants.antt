@@ -2,4 +2,4 @@
 use Rattle.room_execute.proofs.+execute.Given as goal
 
 abbrev pub decreases-execute : goal.decreases-execute
-decreases-execute l = l.place
+decreases-execute l = l.root.place

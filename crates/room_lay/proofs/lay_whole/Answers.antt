@@ -12,7 +12,7 @@ add-root-requires c =
     let at = c.loop-i in
     let all = rw nodes.ensures at c.count-count.ensures in
     placed_so_far c.args.card.now c.args.room.now nodes.result.now nodes.ensures at.i at.room
-    at.invariant.1 c.requires.0 c.requires.2 (omega arith) (omega (arith, c.requires.1))
+    at.invariant.0 c.requires.0 c.requires.2 (omega arith) (omega (arith, c.requires.1))
 
 pub loop-i-preserved : goal.loop-i-preserved
 loop-i-preserved c =
@@ -24,7 +24,7 @@ loop-i-preserved c =
     let all = rw nodes.ensures at c.count-count.ensures in
     let enough : at.i < length s.room.now = omega (arith, c.requires.1) in
     let (next, root) =
-    one_node_more s.card.now s.room.now nodes.result.now nodes.ensures at.i at.room at.invariant.1
+    one_node_more s.card.now s.room.now nodes.result.now nodes.ensures at.i at.room at.invariant.0
     added.new.room added.result node.result node.ensures enough added.ensures.0
     added.ensures.1 in
-    (omega arith, next, root)
+    (next, root)

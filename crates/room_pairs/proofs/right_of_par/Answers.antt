@@ -6,7 +6,7 @@ use Rattle.room_pairs.proofs.right_of_par.Goals as goal
 pub returns : goal.returns
 returns c =
     let s = c.args in
-    let beside = rw c.in-FollowUp.is at c.requires in
+    let beside = rw c.in_ok-x.was at c.requires in
     let done = c.add.ensures in
-    rw (c.in-FollowUp.is, done.0, done.1)
-    (λ k d. par_replaced s.room.now k d 5 s.left c.in-FollowUp.x par_is_five beside.0 beside.1)
+    rw (c.in_ok-x.was, done.0, done.1, c.new.ensures)
+    (λ k d. par_replaced s.room.now k d 5 s.left c.in_ok-x.x par_is_five beside.0 beside.1)

@@ -8,8 +8,8 @@ use Rattle.room_pairs.proofs.right_of_seq.Goals as goal
 pub returns : goal.returns
 returns c =
     let s = c.args in
-    let part = rw c.in-Part.is at c.prune-pruned.ensures in
+    let part = rw (c.at.ensures, c.in-Some.is) at c.prune-pruned.ensures in
     let done = c.add.ensures in
-    rw (c.in-FollowUp.is, done.0, done.1)
-    (seq_passed s.room.now s.k s.lifeline c.in-FollowUp.x (chart_in s.room.now s.left) c.prune-pruned.new.room 4
-    c.in-Part.part seq_is_four part.0 part.1)
+    rw (c.in-Ok.is, done.0, done.1, c.new.ensures)
+    (seq_passed s.room.now s.k s.lifeline c.in-Ok.x (chart_in s.room.now s.left) c.prune-pruned.new.room 4
+    c.in-Some.part seq_is_four part.0 part.1)

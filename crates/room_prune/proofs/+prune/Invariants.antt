@@ -2,4 +2,4 @@
 use Rattle.room_prune.proofs.+prune.Given as goal
 
 abbrev pub decreases-prune : goal.decreases-prune
-decreases-prune l = l.place
+decreases-prune l = l.root.place

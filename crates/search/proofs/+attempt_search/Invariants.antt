@@ -15,8 +15,7 @@ decreases-search l = length l.log.now * 2
 
 abbrev pub invariant-search-loop-x : goal.invariant-search-loop-x
 invariant-search-loop-x l =
-    SoFar l.fn.room (action_of l.action) (log_of l.rest) l.root l.allowance l.places l.room l.deepest l.left l.most l.k
+    SoFar l.fn.room (action_of l.action) (log_of l.rest) l.root l.fn.tally l.room l.deepest l.tally l.k
 
 abbrev pub decreases-search-loop-x : goal.decreases-search-loop-x
-decreases-search-loop-x l =
-    length (choices l.fn.room (action_of l.action) (log_of l.rest) l.root l.allowance l.places) - l.k
+decreases-search-loop-x l = length (choices l.fn.room (action_of l.action) (log_of l.rest) l.root l.fn.tally) - l.k

@@ -42,7 +42,7 @@ returns-in-3-to-6 t c =
     let r = (goal.at.returns-in-3-to-6 t c).After-read-node in
     let (left, l) = left_lower (reading r) (omega arith) (omega arith) in
     let (right, b) = right_lower (reading r) (omega arith) (omega arith) in
-    omega (arith, c.larger.ensures, c.depth.ensures, c.depth-in-3-to-6.ensures)
+    omega (arith, c.max.ensures, c.depth.ensures, c.depth-in-3-to-6.ensures)
 
 pub returns-in-7-to-10 : goal.returns-in-7-to-10
 returns-in-7-to-10 t c =

@@ -23,7 +23,7 @@ use Rattle.write_card.proofs.Putting.{
 }
 use Prim.Native.Nat.{ℕ, ◌<◌, ◌≤◌}
 use Rattle.write_card.proofs.+write.Goals as goal
-use Rattle.write_card.proofs.+write.Goals.{in_default-via-then-kind-lt1, in_default-via-else-kind-lt1+else-kind-lt3+else-kind-lt7+else-kind-lt11, After-read-node, In-3-to-6, In-7-to-10, In_default}
+use Rattle.write_card.proofs.+write.Goals.{in_default-via-then-node-lt1, in_default-via-else-node-lt1+else-node-lt3+else-node-lt7+else-node-lt11, After-read-node, In-3-to-6, In-7-to-10, In_default}
 
 -- The part, with its node.
 abbrev reading : {t : ℕ} (c : After-read-node t) → Reading
@@ -51,8 +51,8 @@ at_place c = c.decreases
 neither : {t : ℕ} (c : In_default t) → (c.read-node.result.kind < 1) ⊎ (11 ≤ c.read-node.result.kind)
 neither c =
     elim c.in_default.branch [
-      | in_default-via-then-kind-lt1 w ↦ inl (omega arith)
-      | in_default-via-else-kind-lt1+else-kind-lt3+else-kind-lt7+else-kind-lt11 w ↦ inr (omega arith)
+      | in_default-via-then-node-lt1 w ↦ inl (omega arith)
+      | in_default-via-else-node-lt1+else-node-lt3+else-node-lt7+else-node-lt11 w ↦ inr (omega arith)
     ]
 
 nothing_here : (r : Reading) → (r.node.kind < 1) ⊎ (11 ≤ r.node.kind) → chart_in r.room r.place ≡ empty
@@ -120,8 +120,9 @@ put-requires-in-3-to-6 t c =
     let (low, high) = is_pair (goal.at.put-requires-in-3-to-6 t c).In-3-to-6 in
     let l = c.write-right in
     let m = c.write-parent in
-    asks_parent (reading read) s.first s.out.now (writable read) low high l.result
-    l.new.out l.ensures m.result m.new.out m.ensures
+    rw c.new.ensures
+    (asks_parent (reading read) s.first s.out.now (writable read) low high l.result
+    l.new.out l.ensures m.result m.new.out m.ensures)
 
 pub write-parent-requires-in-7-to-10 : goal.write-parent-requires-in-7-to-10
 write-parent-requires-in-7-to-10 t c =
@@ -144,15 +145,17 @@ put-requires-in-7-to-10 t c =
     let s = c.args in
     let (low, high) = is_loop (goal.at.put-requires-in-7-to-10 t c).In-7-to-10 in
     let b = c.write-parent-in-7-to-10 in
-    asks_loop (reading read) s.first s.out.now (writable read) low high b.result
-    b.new.out b.ensures
+    rw c.new-in-7-to-10.ensures
+    (asks_loop (reading read) s.first s.out.now (writable read) low high b.result
+    b.new.out b.ensures)
 
 pub put-requires-in_default : goal.put-requires-in_default
 put-requires-in_default t c =
     let read = (goal.at.put-requires-in_default t c).After-read-node in
     let s = c.args in
-    asks_empty (reading read) s.first s.out.now (writable read)
-    (nothing_here (reading read) (neither (goal.at.put-requires-in_default t c).In_default))
+    rw c.new-in_default.ensures
+    (asks_empty (reading read) s.first s.out.now (writable read)
+    (nothing_here (reading read) (neither (goal.at.put-requires-in_default t c).In_default)))
 
 pub returns-in-1-to-2 : goal.returns-in-1-to-2
 returns-in-1-to-2 t c =
@@ -171,9 +174,10 @@ returns-in-3-to-6 t c =
     let l = c.write-right in
     let m = c.write-parent in
     let p = c.put-in-3-to-6 in
+    let put = rw c.new.ensures at p.ensures in
     pair_written (reading read) s.first s.out.now (writable read) low high l.result
     l.new.out l.ensures m.result m.new.out m.ensures p.result p.new.out
-    p.ensures
+    put
 
 pub returns-in-7-to-10 : goal.returns-in-7-to-10
 returns-in-7-to-10 t c =
@@ -182,15 +186,16 @@ returns-in-7-to-10 t c =
     let (low, high) = is_loop (goal.at.returns-in-7-to-10 t c).In-7-to-10 in
     let b = c.write-parent-in-7-to-10 in
     let p = c.put-in-7-to-10 in
+    let put = rw c.new-in-7-to-10.ensures at p.ensures in
     loop_written (reading read) s.first s.out.now (writable read) low high b.result
-    b.new.out b.ensures p.result p.new.out p.ensures
+    b.new.out b.ensures p.result p.new.out put
 
 pub returns-in_default : goal.returns-in_default
 returns-in_default t c =
     let read = (goal.at.returns-in_default t c).After-read-node in
     let s = c.args in
     let p = c.put-in_default in
+    let put = rw c.new-in_default.ensures at p.ensures in
     empty_written (reading read) s.first s.out.now (writable read)
     (nothing_here (reading read) (neither (goal.at.returns-in_default t c).In_default))
-    p.result p.new.out
-    p.ensures
+    p.result p.new.out put

@@ -1,0 +1,2 @@
+-- Laws of reading a file.
+pub mod Filling

@@ -1,0 +1,2 @@
+-- A law of refusals.
+pub mod Real

@@ -1,0 +1,2 @@
+-- What refuses, as a number and a place.
+pub mod Refusals
