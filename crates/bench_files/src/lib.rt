@@ -3,8 +3,9 @@
 // bench_spec/specs/Spelling.antt.
 #![tactic(auto)]
 
+ghost use Rattle.std.specs.Option.{option_copied};
 ghost use Rattle.std.specs.Prelude.{◌≡◌, length, IfOk};
-ghost use Rattle.bench_spec.specs.Telling.{ReadInto, told_of, room_told, Reports};
+ghost use Rattle.bench_spec.specs.Telling.{ReadInto, filled, told_of, room_told, Reports};
 ghost use Rattle.bench_spec.specs.Spelling.{line_of, printed};
 ghost use Rattle.bench_spec.specs.Reading.{OnlyIfOpen, AllRead};
 
@@ -22,11 +23,13 @@ const ALLOWANCE: u32 = 1000000;
 const ROOM: usize = Node::PLACES;
 
 // How many bytes a card and a log are read into: one more than each may have, so that a longer file is found too long.
+// (Arrays and no vectors: neither the library nor the program uses the heap.)
 const CARD: usize = Node::CARD_BYTES + 1;
 
 const LOG: usize = log_bytes::MOST_BYTES + 1;
 
 // Reads an open file to its end, or as far as the lent bytes go.
+// (The answer is a count and no slice: while a slice of them is lent, a contract cannot speak of `bytes`.)
 fn read_open<F: Read>(file: &mut F, bytes: &mut [u8]) -> Option<usize>
     ensures within { ReadInto bytes.new result }
     ensures whole { AllRead (F.remaining file.old) result bytes.new }
@@ -59,21 +62,20 @@ fn read_named<R: Files>(rt: &R, name: &str, bytes: &mut [u8]) -> Option<usize>
     read(file, bytes)
 }
 
-// What the program tells of the contents of `chart` and `log`, which were read into these bytes.
-fn judge_contents(
-    chart: Option<usize>,
-    card: &[u8],
-    log: Option<usize>,
-    actions: &[u8],
-    room: &mut [u32],
-) -> Option<Judged>
-    requires { ReadInto card.now chart × ReadInto actions.now log }
-    ensures { result ≡ told_of chart card.now log actions.now (length room.old)
-        × room.new ≡ room_told chart card.now log actions.now room.old }
+// The content that was read into these bytes.
+fn filled(bytes: &[u8], read: Option<usize>) -> Option<&[u8]>
+    requires { ReadInto bytes.now read }
+    ensures { option_copied result ≡ filled bytes.now read }
 {
-    let card_end = chart?;
-    let log_end = log?;
-    Some(judge::judge(&card[..card_end], &actions[..log_end], ALLOWANCE, room))
+    Some(&bytes[..read?])
+}
+
+// What the program tells of the contents of `chart` and `log`.
+fn judge_contents(card: Option<&[u8]>, log: Option<&[u8]>, room: &mut [u32]) -> Option<Judged>
+    ensures { result ≡ told_of (option_copied card.entry) (option_copied log.entry) (length room.old)
+        × room.new ≡ room_told (option_copied card.entry) (option_copied log.entry) room.old }
+{
+    Some(judge::judge(card?, log?, ALLOWANCE, room))
 }
 
 // Writes a line. Its contract asks that these are the bytes of the line, since no contract can say what was written.
@@ -98,7 +100,7 @@ pub fn run<R: Files + Print>(rt: &R) -> Option<Judged>
     let mut room = [0u32; ROOM];
     let chart = read_named(rt, "chart", &mut card);
     let log = read_named(rt, "log", &mut actions);
-    let told = judge_contents(chart, &card, log, &actions, &mut room);
+    let told = judge_contents(filled(&card, chart), filled(&actions, log), &mut room);
     tell(rt, told);
     told
 }

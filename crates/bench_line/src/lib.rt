@@ -13,6 +13,7 @@ use judge_spec::Judged;
 // have at most ten digits.
 const LONGEST: usize = 52;
 
+// The digits of a number.
 #[tactic(auto, using(bench_spec::proofs::Digits::as_std_prints_it))]
 fn push_number(line: &mut ArrayString<LONGEST>, number: u32)
     requires { array_string_len line.old + length (decimal number) ≤ 52 }
@@ -22,7 +23,7 @@ fn push_number(line: &mut ArrayString<LONGEST>, number: u32)
     line.push_str(digits.format(number));
 }
 
-// The word for a number: a verdict's own, or refused-N.
+// The word for a number, as C is given it: a verdict's own, or refused-N.
 fn push_word(line: &mut ArrayString<LONGEST>, number: u32)
     requires { array_string_len line.old + length (word_of number) ≤ 52 }
     ensures { line.new.bytes ≡ line.old.bytes ++ word_of number }
@@ -47,7 +48,8 @@ fn push_apart(line: &mut ArrayString<LONGEST>, number: u32)
     push_number(line, number);
 }
 
-// The line for what the program tells.
+// The line for what the program tells. (No `Display`: a `fmt` promises its text only where it succeeds, so one that
+// always fails would do.)
 #[tactic(auto, using(crate::proofs::Pieces::short_pieces), unfolding(bench_spec::specs::Spelling::decimal))]
 pub fn spell(told: Option<Judged>) -> ArrayString<LONGEST>
     ensures { result.bytes ≡ printed (line_of told) }

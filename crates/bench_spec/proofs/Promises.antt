@@ -22,39 +22,40 @@ use Rattle.judge_spec.specs.Table.Refused.{by_the_card, seven}
 use Rattle.judge_spec.proofs.Example.{printed_log, the_printed_log_is_accepted}
 use Rattle.judge_spec.proofs.Promises.{refused_exactly_as_the_table_tells}
 use Rattle.bench_spec.specs.Reading.{Moved, after_read, OnlyIfOpen, AllRead}
-use Rattle.bench_spec.specs.Telling.{allowance, room, told_of}
+use Rattle.bench_spec.specs.Telling.{allowance, room, filled, told_of}
 use Rattle.bench_spec.specs.Spelling.{bytes, decimal, word_of, line_of, printed}
 use Rattle.bench_spec.proofs.Words as words
 
 -- ---- what is told
 
-module _ (card log : List ℕ) (long : ℕ) where
+module _ (long : ℕ) where
   -- No second telling meets the contract.
   pub no_second_telling :
-      (chart actions : Option ℕ) {r s : Option Judged} → r ≡ told_of chart card actions log long
-      → s ≡ told_of chart card actions log long → r ≡ s
-  no_second_telling chart actions e f = e ∙ sym f
+      (card log : Option (List ℕ)) {r s : Option Judged} → r ≡ told_of card log long → s ≡ told_of card log long
+      → r ≡ s
+  no_second_telling card log e f = e ∙ sym f
 
   -- "If either file is missing": the program tells so exactly then.
   pub no_file_exactly_if_one_is_missing :
-      (chart actions : Option ℕ)
-      → (told_of chart card actions log long ≡ None) ↔ ((chart ≡ None) ⊎ (actions ≡ None))
-  no_file_exactly_if_one_is_missing chart actions = (missing chart actions, told chart actions)
+      (card log : Option (List ℕ)) → (told_of card log long ≡ None) ↔ ((card ≡ None) ⊎ (log ≡ None))
+  no_file_exactly_if_one_is_missing card log = (missing card log, told card log)
     where
-      missing :
-          (chart actions : Option ℕ) → told_of chart card actions log long ≡ None
-          → (chart ≡ None) ⊎ (actions ≡ None)
-      missing (Some m) (Some n) e = cc
-      missing (Some m) None e = inr refl
-      missing None actions e = inl refl
+      missing : (card log : Option (List ℕ)) → told_of card log long ≡ None → (card ≡ None) ⊎ (log ≡ None)
+      missing (Some c) (Some l) e = cc
+      missing (Some c) None e = inr refl
+      missing None log e = inl refl
 
-      told :
-          (chart actions : Option ℕ) → (chart ≡ None) ⊎ (actions ≡ None)
-          → told_of chart card actions log long ≡ None
-      told (Some m) (Some n) (inl e) = cc
-      told (Some m) (Some n) (inr e) = cc
-      told (Some m) None e = refl
-      told None actions e = refl
+      told : (card log : Option (List ℕ)) → (card ≡ None) ⊎ (log ≡ None) → told_of card log long ≡ None
+      told (Some c) (Some l) (inl e) = cc
+      told (Some c) (Some l) (inr e) = cc
+      told (Some c) None e = refl
+      told None log e = refl
+
+-- The contents are missing exactly if reading ended with nothing.
+pub no_content_exactly_if_nothing_was_read :
+    (bytes : List ℕ) (read : Option ℕ) → (filled bytes read ≡ None) ↔ (read ≡ None)
+no_content_exactly_if_nothing_was_read bytes (Some n) = (λ e. cc, λ e. cc)
+no_content_exactly_if_nothing_was_read bytes None = (λ e. refl, λ e. refl)
 
 -- A file that could not be opened is told as missing, and so is one of which reading failed, whatever was read before.
 pub an_unopened_file_is_missing :
@@ -121,7 +122,8 @@ a_missing_file_is_printed = refl
 -- accepted 2 2 6": these are the 18 and the 4 bytes that were read, whatever stands after them.
 pub it_prints_exactly :
     (behind more : List ℕ)
-    → printed (line_of (told_of (Some 18) (card.printed ++ behind) (Some 4) (printed_log ++ more) room))
+    → printed
+    (line_of (told_of (filled (card.printed ++ behind) (Some 18)) (filled (printed_log ++ more) (Some 4)) room))
     ≡ bytes "accepted 2 2 6" ++ (10 ∷ [])
 unfolding decimal
 it_prints_exactly behind more = ap (λ j. printed (line_of (Some j))) the_printed_log_is_accepted

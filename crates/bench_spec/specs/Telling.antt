@@ -17,18 +17,23 @@ abbrev pub ReadInto : List ℕ → Option ℕ → Type 0
 ReadInto bytes (Some n) = n ≤ length bytes
 ReadInto bytes None = Unit
 
--- What the program tells of the contents of `chart` and `log`, read into these bytes, with a room of length `long`: the
--- judgment of what was read; or none, "if either file is missing" (01, Logs worked by hand).
-abbrev pub told_of : Option ℕ → List ℕ → Option ℕ → List ℕ → ℕ → Option Judged
-told_of (Some m) card (Some n) log long = Some (judgment (take m card) (take n log) allowance long)
-told_of (Some m) card None log long = None
-told_of None card content log long = None
+-- The content that was read into these bytes: so many of them, from the first on.
+abbrev pub filled : List ℕ → Option ℕ → Option (List ℕ)
+filled bytes (Some n) = Some (take n bytes)
+filled bytes None = None
+
+-- What the program tells of the contents of `chart` and `log`, with a room of length `long`: the judgment of what was
+-- read; or none, "if either file is missing" (01, Logs worked by hand).
+abbrev pub told_of : Option (List ℕ) → Option (List ℕ) → ℕ → Option Judged
+told_of (Some card) (Some log) long = Some (judgment card log allowance long)
+told_of (Some card) None long = None
+told_of None content long = None
 
 -- The room afterwards: as the judgment leaves it, or as found.
-abbrev pub room_told : Option ℕ → List ℕ → Option ℕ → List ℕ → List ℕ → List ℕ
-room_told (Some m) card (Some n) log found = room_after (take m card) (take n log) found
-room_told (Some m) card None log found = found
-room_told None card content log found = found
+abbrev pub room_told : Option (List ℕ) → Option (List ℕ) → List ℕ → List ℕ
+room_told (Some card) (Some log) found = room_after card log found
+room_told (Some card) None found = found
+room_told None content found = found
 
 -- What the program reports: what it tells of some contents of the two files, with 01's lending. Each file was read into
 -- one byte more than a card or a log may have, so that a longer file is found too long. No contract can say which bytes
@@ -42,4 +47,4 @@ pub record Reports (told : Option Judged) : Type 0 where
   pub log_long : length log_bytes ≡ 257
   pub chart_within : ReadInto card_bytes chart
   pub log_within : ReadInto log_bytes log
-  pub tells : told ≡ told_of chart card_bytes log log_bytes room
+  pub tells : told ≡ told_of (filled card_bytes chart) (filled log_bytes log) room

@@ -9,7 +9,7 @@ ghost use Rattle.card_spec.specs.Figures.{depth_of};
 ghost use Rattle.card_spec.specs.Checking.{checking, findings, first};
 ghost use Rattle.card_spec.specs.Note.{note_of};
 
-use card_spec::Checked;
+use card_spec::{Checked, SoundCard};
 use node::Node;
 use number::Refusal;
 
@@ -33,12 +33,14 @@ fn measure(card: &[u8]) -> Result<u32, Refusal>
     Ok(depth)
 }
 
-// What refuses a card, if anything does.
-pub fn pass(card: &[u8]) -> Result<(), Refusal>
-    ensures { result ≡ first (findings card.now) }
+// The caller's own card as a sound one, or what refuses it.
+pub fn pass(card: &[u8]) -> Result<SoundCard<'_>, Refusal>
+    ensures { MatchResult result
+        (λ sound. (sound.bytes ≡ card.entry) × (first (findings card.now) ≡ Ok tt))
+        (λ refusal. first (findings card.now) ≡ Err refusal) }
 {
     measure(card)?;
-    Ok(())
+    Ok(SoundCard { bytes: card })
 }
 
 // The answer to any run of bytes as a card.
@@ -65,7 +67,7 @@ pub fn note(card: &[u8]) -> &[u8]
     ensures { result.ref_ptr ≡ card.entry.ref_ptr × result.now ≡ note_of card.now }
 {
     match pass(card) {
-        Ok(()) => {
+        Ok(_) => {
             let end = card_parts::first_at(card);
             &card[0..end]
         }

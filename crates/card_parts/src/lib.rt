@@ -22,7 +22,8 @@ pub fn trailer(card: &[u8], k: usize) -> u32
     u32::from(card[size - Node::TRAILER_BYTES + k])
 }
 
-// The back distance, low byte first: how many bytes the nodes take.
+// The back distance, low byte first: how many bytes the nodes take. (No `from_le_bytes`: a byte that a short card lacks
+// counts as 0.)
 pub fn back(card: &[u8]) -> usize
     ensures { result ≡ back_of card.now }
 {
@@ -72,7 +73,7 @@ pub fn count(nodes: &[u8]) -> usize
     nodes.len() / Node::NODE_BYTES
 }
 
-// Node i.
+// Node i. (The bound of an index is a clause.)
 pub fn node_at(nodes: &[u8], i: usize) -> Node
     requires { i < count_of nodes.now }
     ensures { result ≡ node_at nodes.now i }

@@ -4,6 +4,7 @@
 
 ghost use Rattle.std.specs.Prelude.{◌≡◌};
 ghost use Rattle.card_spec.specs.Checking.{refused};
+ghost use Rattle.card_spec.specs.Table.{Sound};
 
 use number::Refusal;
 
@@ -19,6 +20,7 @@ pub struct Checked {
     pub lifelines: u32,
 }
 
+// One `From` for each of C's three structs: they have other fields.
 impl From<Refusal> for Checked {
     ghost from_gives = { λ refusal result. result ≡ refused refusal };
 
@@ -38,4 +40,11 @@ impl From<Refusal> for Checked {
 pub struct Counts {
     pub lifelines: u32,
     pub messages: u32,
+}
+
+// A card that nothing refuses.
+#[derive(Clone, Copy)]
+pub struct SoundCard<'a> {
+    pub bytes: &'a [u8],
+    ghost sound: { Sound bytes.now },
 }

@@ -2,25 +2,26 @@
 // one answer. The answer and the output are defined in cut_spec/specs/Cutting.antt.
 #![tactic(auto)]
 
-ghost use Rattle.std.specs.Prelude.{◌≡◌, ◌<◌, length};
+ghost use Rattle.std.specs.Prelude.{◌≡◌, ◌<◌, length, MatchResult};
 ghost use Rattle.card_spec.specs.Parts.{lifelines_of};
-ghost use Rattle.card_spec.specs.Table.{Sound};
 ghost use Rattle.cut_spec.specs.Cutting.{asked, cutting, out_after};
 
+use card_spec::SoundCard;
 use cut_spec::CutAnswer;
 use node::Node;
 use number::Refusal;
 
-// The most room that a cut takes: the places of the card's chart, and as many again for what pruning makes.
+// The most room that a cut takes: the places of the card's chart, and as many again for what pruning makes. (An array
+// and no vector: the library uses no heap.)
 const ROOM: usize = 2 * Node::NODES;
 
 // The cut of a sound card: its chart is laid and pruned in a room of the cut's own.
-fn cut_in(card: &[u8], lifeline: u32, room: &mut [u32], out: &mut [u8]) -> CutAnswer
-    requires { Sound card.now × lifeline < lifelines_of card.now × length room.old ≡ 510 }
-    ensures { result ≡ cutting card.now lifeline (length out.old)
-        × out.new ≡ out_after card.now lifeline out.old }
+fn cut_in(card: SoundCard, lifeline: u32, room: &mut [u32], out: &mut [u8]) -> CutAnswer
+    requires { lifeline < lifelines_of card.bytes.now × length room.old ≡ 510 }
+    ensures { result ≡ cutting card.entry.bytes.now lifeline (length out.old)
+        × out.new ≡ out_after card.entry.bytes.now lifeline out.old }
 {
-    let root = room_lay::lay_whole(card, room);
+    let root = room_lay::lay_whole(card.bytes, room);
     let Some(part) = room_prune::prune(room, root, lifeline) else {
         return CutAnswer::from(Refusal::NoLogLeft);
     };
@@ -28,7 +29,7 @@ fn cut_in(card: &[u8], lifeline: u32, room: &mut [u32], out: &mut [u8]) -> CutAn
     if out.len() < length {
         return CutAnswer::from(Refusal::OutputTooShort);
     }
-    let counts = card_parts::counts(card);
+    let counts = card_parts::counts(card.bytes);
     write_card::write_card(room, part.place, counts, out);
     CutAnswer {
         number: number::OK,
@@ -37,12 +38,15 @@ fn cut_in(card: &[u8], lifeline: u32, room: &mut [u32], out: &mut [u8]) -> CutAn
     }
 }
 
-// What refuses a card or the lifeline to cut out of it, if anything does: 1 to 6, then 11.
-fn check(card: &[u8], lifeline: u32) -> Result<(), Refusal>
-    ensures { result ≡ asked card.now lifeline }
+// The caller's own card as a sound one, or what refuses it or the lifeline to cut out of it: 1 to 6, then 11.
+fn check(card: &[u8], lifeline: u32) -> Result<SoundCard<'_>, Refusal>
+    ensures { MatchResult result
+        (λ sound. (sound.bytes ≡ card.entry) × (asked card.now lifeline ≡ Ok tt))
+        (λ refused. asked card.now lifeline ≡ Err refused) }
 {
-    card_check::pass(card)?;
-    Refusal::UndeclaredLifeline.unless(lifeline < card_parts::counts(card).lifelines)
+    let sound = card_check::pass(card)?;
+    Refusal::UndeclaredLifeline.unless(lifeline < card_parts::counts(card).lifelines)?;
+    Ok(sound)
 }
 
 // The cut of any bytes as a card. A refused cut leaves the output as found; any other writes its card to the first
@@ -52,9 +56,9 @@ pub fn cut(card: &[u8], lifeline: u32, out: &mut [u8]) -> CutAnswer
         × out.new ≡ out_after card.now lifeline out.old }
 {
     match check(card, lifeline) {
-        Ok(()) => {
+        Ok(sound) => {
             let mut room = [0u32; ROOM];
-            cut_in(card, lifeline, &mut room, out)
+            cut_in(sound, lifeline, &mut room, out)
         }
         Err(refusal) => CutAnswer::from(refusal),
     }

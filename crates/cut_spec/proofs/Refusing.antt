@@ -20,7 +20,6 @@ use Rattle.card_spec.specs.Findings.{or_else}
 use Rattle.card_spec.specs.Checking.{findings, first}
 use Rattle.card_spec.specs.Table.{Sound}
 use Rattle.card_spec.proofs.Lowest.{holds→, or_fine→}
-use Rattle.card_spec.proofs.Promises.{nothing_refuses_exactly_sound_cards}
 use Rattle.card_spec.proofs.Telling.{sound→nothing_found}
 use Rattle.write_spec.specs.Cards.{card_bytes}
 use Rattle.write_spec.proofs.Read.{length_card}
@@ -41,9 +40,6 @@ module _ (card : List ℕ) (lifeline : ℕ) where
   both_passed : asked card lifeline ≡ Ok tt
       → (first (findings card) ≡ Ok tt) × (rule UndeclaredLifeline (ltb lifeline (lifelines_of card)) ≡ Ok tt)
   both_passed = or_fine→ (first (findings card)) (rule UndeclaredLifeline (ltb lifeline (lifelines_of card)))
-
-  pub asked→sound : asked card lifeline ≡ Ok tt → Sound card
-  asked→sound e = (nothing_refuses_exactly_sound_cards card).0 (both_passed e).0
 
   pub asked→declared : asked card lifeline ≡ Ok tt → lifeline < lifelines_of card
   asked→declared e =

@@ -9,7 +9,7 @@ ghost use Rattle.cut_spec.specs.Cutting.{refused_at};
 use number::Refusal;
 
 // Number 0, place 0 and the length of the card that was written; or the number and place of a refusal, and no length.
-// One struct of numbers, and no `Result`: C reads it.
+// (One struct of numbers and no `Result`: C reads it.)
 #[repr(C)]
 #[derive(Clone, Copy)]
 pub struct CutAnswer {
@@ -18,6 +18,7 @@ pub struct CutAnswer {
     pub length: u32,
 }
 
+// One `From` for each of C's three structs: they have other fields.
 impl From<Refusal> for CutAnswer {
     ghost from_gives = { λ refusal result. result ≡ refused_at (number_of refusal) (place_of refusal) };
 

@@ -2,25 +2,26 @@
 // one answer. The answer and the room are defined in judge_spec/specs/Judgment.antt.
 #![tactic(auto)]
 
-ghost use Rattle.std.specs.Prelude.{◌≡◌, ◌≤◌, length, replicate};
+ghost use Rattle.std.specs.Prelude.{◌≡◌, ◌≤◌, length, replicate, MatchResult};
 ghost use Rattle.chart_spec.specs.Lending.{answer};
 ghost use Rattle.card_spec.specs.Nodes.{card_chart};
-ghost use Rattle.card_spec.specs.Table.{Sound};
 ghost use Rattle.log_spec.specs.Bytes.{log_of};
 ghost use Rattle.judge_spec.specs.Judgment.{usable, refusal, judged_of, judgment, room_after};
 
+use card_spec::SoundCard;
 use judge_spec::Judged;
 use node::Node;
 use number::Refusal;
 use search_spec::Tally;
 
-// The answer to a sound card and log, in a room that is usable as a whole.
-fn answer_in(card: &[u8], log: &[u8], allowance: u32, room: &mut [u32]) -> Judged
-    requires { Sound card.now × length log.now ≤ 256 × length room.old ≤ 16384 }
-    ensures { result ≡ judged_of (answer (card_chart card.now) (log_of log.now) allowance
+// The answer to a sound card and log, in a room that is usable as a whole. (The two lengths are clauses here and in
+// `judge_sound`, and no type: `room_lay::lay` and `search::search` ask them so, and what these require may not change.)
+fn answer_in(card: SoundCard, log: &[u8], allowance: u32, room: &mut [u32]) -> Judged
+    requires { length log.now ≤ 256 × length room.old ≤ 16384 }
+    ensures { result ≡ judged_of (answer (card_chart card.entry.bytes.now) (log_of log.now) allowance
         (length room.old)) }
 {
-    let Some(root) = room_lay::lay(card, room) else {
+    let Some(root) = room_lay::lay(card.bytes, room) else {
         return Judged::from(Refusal::RoomExceeded);
     };
     let tally = Tally {
@@ -33,9 +34,9 @@ fn answer_in(card: &[u8], log: &[u8], allowance: u32, room: &mut [u32]) -> Judge
 }
 
 // The answer to a sound card and log; the room is cleared.
-fn judge_sound(card: &[u8], log: &[u8], allowance: u32, room: &mut [u32]) -> Judged
-    requires { Sound card.now × length log.now ≤ 256 × length room.old ≤ 16384 }
-    ensures { result ≡ judged_of (answer (card_chart card.now) (log_of log.now) allowance
+fn judge_sound(card: SoundCard, log: &[u8], allowance: u32, room: &mut [u32]) -> Judged
+    requires { length log.now ≤ 256 × length room.old ≤ 16384 }
+    ensures { result ≡ judged_of (answer (card_chart card.entry.bytes.now) (log_of log.now) allowance
         (length room.old))
         × room.new ≡ replicate (length room.old) 0 }
 {
@@ -51,12 +52,15 @@ fn usable(long: usize) -> usize
     long.min(Node::PLACES)
 }
 
-// What refuses a card or a log, if anything does.
-fn check(card: &[u8], log: &[u8]) -> Result<(), Refusal>
-    ensures { result ≡ refusal card.now log.now }
+// The caller's own card as a sound one, or what refuses it or the log.
+fn check<'a>(card: &'a [u8], log: &[u8]) -> Result<SoundCard<'a>, Refusal>
+    ensures { MatchResult result
+        (λ sound. (sound.bytes ≡ card.entry) × (refusal card.now log.now ≡ Ok tt))
+        (λ refused. refusal card.now log.now ≡ Err refused) }
 {
-    card_check::pass(card)?;
-    log_bytes::check(log, card_parts::counts(card))
+    let sound = card_check::pass(card)?;
+    log_bytes::check(log, card_parts::counts(card))?;
+    Ok(sound)
 }
 
 // The judgment of any bytes as a card and a log. A refusal leaves the room as found; any other answer leaves its usable
@@ -66,9 +70,9 @@ pub fn judge(card: &[u8], log: &[u8], allowance: u32, room: &mut [u32]) -> Judge
         × room.new ≡ room_after card.now log.now room.old }
 {
     match check(card, log) {
-        Ok(()) => {
+        Ok(sound) => {
             let end = usable(room.len());
-            judge_sound(card, log, allowance, &mut room[0..end])
+            judge_sound(sound, log, allowance, &mut room[0..end])
         }
         Err(refusal) => Judged::from(refusal),
     }

@@ -10,7 +10,8 @@ ghost use Rattle.judge_spec.specs.Judgment.{judged_of};
 use judge_spec::Judged;
 use search_spec::{Ended, Outcome};
 
-// The number of a log that was not accepted: it deviates if no path got through the whole log, else it is short.
+// The number, as C is given it, of a log that was not accepted: it deviates if no path got through the whole log, else
+// it is short.
 fn unaccepted(deepest: u32, actions: u32) -> u32
     ensures { result ≡ unaccepted (ltb deepest actions) }
 {

@@ -15,7 +15,6 @@ use Rattle.card_spec.specs.Nodes.{card_chart}
 use Rattle.card_spec.specs.Checking.{findings, first}
 use Rattle.card_spec.specs.Table.{Sound}
 use Rattle.card_spec.proofs.Lowest.{or_fine→}
-use Rattle.card_spec.proofs.Promises.{nothing_refuses_exactly_sound_cards}
 use Rattle.card_spec.proofs.Telling.{sound→nothing_found}
 use Rattle.log_spec.specs.Bytes.{log_of}
 use Rattle.log_spec.specs.Refusing.{refusing}
@@ -45,12 +44,7 @@ module _ (card log : List ℕ) (allowance : ℕ) (room : List ℕ) where
       → refusing (lifelines_of card) (messages_of card) log ≡ Err refused → refusal card log ≡ Err refused
   log_refused refused sound e = rw (sound→nothing_found card sound, e)
 
-  -- Neither was refused: the card is sound, and the log short;
-  pub passed→sound : refusal card log ≡ Ok tt → Sound card
-  passed→sound e =
-      (nothing_refuses_exactly_sound_cards card).0
-      (or_fine→ (first (findings card)) (refusing (lifelines_of card) (messages_of card) log) e).0
-
+  -- Neither was refused: the log is short,
   pub passed→short : refusal card log ≡ Ok tt → length log ≤ 256
   passed→short e =
       in_rule_is_short log

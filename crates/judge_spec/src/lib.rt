@@ -8,8 +8,7 @@ ghost use Rattle.judge_spec.specs.Judgment.{refused_at};
 
 use number::Refusal;
 
-// The judgment of a log by a card: number, place, steps, places.
-// One struct of numbers, and no `Result`: C reads it.
+// The judgment of a log by a card: number, place, steps, places. (One struct of numbers and no `Result`: C reads it.)
 #[repr(C)]
 #[derive(Clone, Copy)]
 pub struct Judged {
@@ -19,6 +18,7 @@ pub struct Judged {
     pub places: u32,
 }
 
+// One `From` for each of C's three structs: they have other fields.
 impl From<Refusal> for Judged {
     ghost from_gives = { λ refusal result. result ≡ refused_at (number_of refusal) (place_of refusal) };
 

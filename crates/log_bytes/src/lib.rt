@@ -16,8 +16,8 @@ pub const ACTION_BYTES: usize = 2;
 
 pub const MOST_BYTES: usize = 256;
 
-// An action by its two bytes: lifeline times 2, plus 0 for emission or 1 for reception; then the message. No `From`: an
-// action of the crate `room_spec` is not always these bytes.
+// An action by its two bytes: lifeline times 2, plus 0 for emission or 1 for reception; then the message. (No
+// `From`: the type is of the crate `room_spec`, and a `From` would have to stand there.)
 pub fn action_of(first: u8, second: u8) -> Action
     ensures { action_of result ≡ acts first second }
 {
@@ -51,7 +51,8 @@ fn is_declared(action: Action, counts: Counts) -> bool
     action.lifeline < counts.lifelines && action.message < counts.messages
 }
 
-// Refuses the lowest action with a lifeline or message not declared.
+// Refuses the lowest action with a lifeline or message not declared. (`lowest_faulty` of card_faults says why both have
+// a loop of their own.)
 fn lowest_undeclared(log: &[u8], counts: Counts) -> Result<(), Refusal>
     requires { length log.now ≤ 256 }
     ensures { result ≡ undeclared counts.lifelines counts.messages log.now }

@@ -69,12 +69,14 @@ impl Node {
 
     const NUMBER_BITS: u32 = 14;
 
+    // A node of that kind with these two numbers.
     pub fn new(kind: u32, a: u32, b: u32) -> Node
         ensures { result ≡ record { kind = kind; a = a; b = b } }
     {
         Node { kind, a, b }
     }
 
+    // The node as one place. (Two functions and no `From`: 01 asks for "functions that pack and unpack a place".)
     pub fn pack(self) -> u32
         ensures { result ≡ word_of self }
     {
@@ -83,6 +85,7 @@ impl Node {
         (upper << Node::NUMBER_BITS) | (self.b & Node::NUMBER_MASK)
     }
 
+    // The node that a place holds.
     pub fn unpack(word: u32) -> Node
         ensures { result ≡ node_of word }
     {

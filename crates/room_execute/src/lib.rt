@@ -13,7 +13,7 @@ ghost use Rattle.room_execute.specs.Occurrences.{occurrences};
 use node::Node;
 use room_spec::{Action, Missing, Root};
 
-// Whether a node of kind 1 or 2 is that action.
+// Whether a node of kind 1 or 2 is that action. (No `==`: a node and an action are two types.)
 fn is(node: Node, action: &Action) -> bool
     ensures { result ≡ same (action_of action.now)
         (record { line = node.a; receives = eqb node.kind 2; message = node.b }) }

@@ -15,7 +15,7 @@ ghost use Rattle.room_loops.specs.Orders.{order_between};
 use node::Node;
 use room_spec::Root;
 
-// The order in which the rounds of a loop follow each other, as the kind of a pair.
+// The order in which the rounds of a loop follow each other, as the kind of a pair. (Kinds are numbers: see `Node`.)
 fn between_rounds(kind: u32) -> u32
     ensures { result ≡ order_between kind }
 {

@@ -91,7 +91,8 @@ fn is_none(answer: Result<Root, Missing>, k: u32) -> bool
 }
 
 // The answer for a pair, from the answer for its right side and by the kind of the pair. In an alt the right's
-// follow-up alone remains. If there is no occurrence on the right, the left is not asked.
+// follow-up alone remains. If there is no occurrence on the right, the left is not asked. (k and `right` are no pair of
+// one value: k is what the right side was asked for.)
 pub fn on_right(
     room: &mut [u32],
     node: Node,

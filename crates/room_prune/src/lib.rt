@@ -11,7 +11,7 @@ use node::Node;
 use room_spec::Root;
 
 // What is left of a pair whose pruned left side is `left`, given what is left of its right side: an alt keeps both
-// sides or only the left one; of any other pair both are left, or nothing.
+// sides or only the left one; of any other pair both are left, or nothing. (Kinds are numbers: see `Node`.)
 fn pair_of(room: &mut [u32], kind: u32, left: Root, right: Option<Root>) -> Option<Root>
     requires { Table room.old (above right 0) }
     ensures { result ≡ pair_of room.old kind left right
@@ -27,7 +27,7 @@ fn pair_of(room: &mut [u32], kind: u32, left: Root, right: Option<Root>) -> Opti
     }
 }
 
-// What is left of a loop, given what is left of its body: a loop of that, or an empty.
+// What is left of a loop of that kind, given what is left of its body: a loop of that, or an empty.
 pub fn loop_of(room: &mut [u32], kind: u32, body: Option<Root>, used: u32) -> Root
     requires { Table room.old (above body used) }
     ensures { result ≡ loop_of room.old body used × room.new ≡ loop_in room.old kind body used }

@@ -29,8 +29,8 @@ pub record Table (room : List ℕ) (used : ℕ) : Type 0 where
   pub lower : (p : ℕ) → p < used → p < length room → Below p (children (node_in room p))
 
 -- A part has its root at this place: it and every node before it have their parts at lower places. Functions ask it in
--- a clause, and not by a type of a room and a place: it holds for the parts of a part too, so each descent would have to
--- make such a value, with the same proof as for the clause.
+-- a clause, and not by a type of a room and a place: it holds for the parts of a part too, so each descent would have
+-- to make such a value, with the same proof as for the clause.
 pub record Rooted (room : List ℕ) (place : ℕ) : Type 0 where
   pub inside : place < length room
   pub table : Table room (suc place)

@@ -88,10 +88,10 @@ fn emission(message: u32) -> Action {
 fn run(stdout: Stdout, card: &[u8], room: &mut [u32]) -> io::Result<()>
     requires { length room.old ≤ 16384 }
 {
-    let Ok(()) = card_check::pass(card) else {
+    let Ok(sound) = card_check::pass(card) else {
         return Ok(());
     };
-    let Some(root) = room_lay::lay(card, room) else {
+    let Some(root) = room_lay::lay(sound.bytes, room) else {
         return Ok(());
     };
     let many = grow(room, root, &emission(0), 125);

@@ -11,7 +11,7 @@ use room_spec::{Action, Root};
 use std::io;
 use std::io::Stdout;
 
-// What stands before the parts of a pair or of a loop.
+// What stands before the parts of a pair or of a loop. (Kinds are numbers: see `Node`.)
 fn name(kind: u32) -> &'static str {
     match kind {
         Node::STRICT => "strict",
@@ -129,10 +129,10 @@ fn walk(stdout: Stdout, room: &mut [u32], root: Root, steps: &[u8]) -> io::Resul
 // A card's chart, and what these steps make of it.
 fn show(stdout: Stdout, card: &[u8], steps: &[u8]) -> io::Result<()> {
     let mut room = [0u32; 64];
-    let Ok(()) = card_check::pass(card) else {
+    let Ok(sound) = card_check::pass(card) else {
         return Ok(());
     };
-    let Some(root) = room_lay::lay(card, &mut room) else {
+    let Some(root) = room_lay::lay(sound.bytes, &mut room) else {
         return Ok(());
     };
     write_line(stdout, &room, root)?;

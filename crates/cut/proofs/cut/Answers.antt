@@ -1,17 +1,16 @@
 -- `cut` meets its contract: the card or the lifeline is refused; else `cut_in` makes the cut of the sound card.
 -- Assumes nothing.
-use mathlib.Core.Path.{refl, sym, ◌∙◌}
-use Rattle.cut_spec.proofs.Refusing.{asked→sound, asked→declared, asked_refused}
+use mathlib.Core.Path.{refl, ◌∙◌}
+use Rattle.cut_spec.proofs.Refusing.{asked→declared, asked_refused}
 use Rattle.cut.proofs.cut.Goals as goal
 
 pub cut_in-requires : goal.cut_in-requires
 cut_in-requires c =
-    let s = c.args in
-    let passed = sym c.in-Ok.ensures in
-    (asked→sound s.card.now s.lifeline passed, asked→declared s.card.now s.lifeline passed, refl)
+    let (same, passed) = c.in-Ok.ensures in
+    (rw same (asked→declared c.args.card.now c.args.lifeline passed), refl)
 
 pub returns-in-Err : goal.returns-in-Err
 returns-in-Err c =
     let s = c.args in
-    let (answer, out) = asked_refused s.card.now s.lifeline s.out.now c.in-Err.refusal (sym c.in-Err.ensures) in
+    let (answer, out) = asked_refused s.card.now s.lifeline s.out.now c.in-Err.refusal c.in-Err.ensures in
     (c.from.ensures ∙ answer, out)
