@@ -31,7 +31,7 @@ of_the_cut card lifeline long =
     ∷ rule OutputTooShort (leb (length (cut_card card lifeline)) long)
     ∷ []
 
--- What refuses a card or the lifeline to cut out of it: "1 to 6, 11" (01, Verdicts and numbers given).
+-- What refuses a card or the lifeline to cut out of it: 1 to 6, then 11 (01, Verdicts and numbers given).
 abbrev pub asked : List ℕ → ℕ → Result Unit Refusal
 asked card lifeline =
     or_else (first (findings card)) (rule UndeclaredLifeline (ltb lifeline (lifelines_of card)))
