@@ -1,12 +1,11 @@
--- The lowest node that does not pass a test, and how a loop finds it: all nodes so far pass, and the loop goes on or
--- has found it.
+-- The lowest node that does not pass a test, and how a loop finds it: all nodes so far pass, and the loop has found
+-- the first that does not.
 -- All by induction on how many nodes were looked at.
 -- Assumes nothing.
-use Prim.Native.Nat.{ℕ, zero, suc, ◌+◌, ◌<◌}
+use Prim.Native.Nat.{ℕ, zero, suc, ◌<◌}
 use mathlib.Core.Bool.{Bool, true, false}
 use mathlib.Core.Path.{◌≡◌, refl}
 use native.Mathlib.Decide.{ℕ_discrete}
-use native.Mathlib.Numerals.{add-one}
 use native.Mathlib.Omega.{arith}
 use Rattle.std.specs.Prelude.{Result, Ok, Err}
 use Rattle.number.specs.declared.Refusal.{Refusal}
@@ -24,11 +23,6 @@ or_fine→ (Ok u) g h = (refl, h)
 or_fine→ (Err refusal) g h = (h, cc)
 
 module _ (passes : ℕ → Bool) (refusal : ℕ → Refusal) where
-  -- All nodes so far pass, and this one does too.
-  pub fine_so_far :
-      (i : ℕ) → lowest passes refusal i ≡ Ok tt → passes i ≡ true → lowest passes refusal (i + 1) ≡ Ok tt
-  fine_so_far i h e = rw (add-one i, h, e)
-
   -- All nodes so far pass, and this one does not.
   pub found_here :
       (i n : ℕ) → i < n → lowest passes refusal i ≡ Ok tt → passes i ≡ false

@@ -1,10 +1,9 @@
--- Tests that are joined by `&&`, `||` and `not`, as types and back; and tests that the code makes.
+-- Tests that are joined by `&&`, `||` and `not`, as types and back.
 -- Assumes nothing.
-use mathlib.Core.Bool.{Bool, true, false, ◌&&◌, ◌||◌, not}
+use mathlib.Core.Bool.{Bool, true, false, ◌&&◌, ◌||◌}
 use mathlib.Core.Logic.{◌⊎◌, inl, inr}
-use mathlib.Core.Path.{◌≡◌, refl, ◌∙◌, sym}
+use mathlib.Core.Path.{◌≡◌, refl}
 use lib.Dec.{T}
-use borrow.Author.Tests.{not-true, not-false}
 
 pub both→ : (p q : Bool) → T (p && q) → T p × T q
 both→ true q h = (tt, h)
@@ -35,10 +34,3 @@ passes false h = absurd h
 pub both_true : (p q : Bool) → (p && q) ≡ true → (p ≡ true) × (q ≡ true)
 both_true true q h = (refl, h)
 both_true false q h = (h, cc)
-
--- The code tests whether a call returned false; `r` is what it returned, `p` what its contract ensures.
-pub test_failed : {p r : Bool} → r ≡ p → not r ≡ true → p ≡ false
-test_failed {p} {r} e h = sym e ∙ not-true r h
-
-pub test_passed : {p r : Bool} → r ≡ p → not r ≡ false → p ≡ true
-test_passed {p} {r} e h = sym e ∙ not-false r h

@@ -6,7 +6,7 @@ use mathlib.Core.List.{List, ◌++◌}
 use mathlib.Core.Path.{◌≡◌, refl, ap, ◌∙◌}
 use native.Mathlib.Omega.{arith}
 use lib.ListN.{length, take, drop, replicate, length-take}
-use Rattle.chart_spec.specs.Lending.{Answer, answer}
+use Rattle.chart_spec.specs.Lending.{answer}
 use Rattle.std.specs.Prelude.{Ok, Err}
 use Rattle.number.specs.declared.Refusal.{Refusal}
 use Rattle.number.specs.Refusals.{number_of, place_of}
@@ -27,10 +27,6 @@ zeroed : (room part : List ℕ) (end n : ℕ) → end ≡ n → part ≡ replica
 zeroed room part end n is zeros = rw (is, zeros)
 
 module _ (card log : List ℕ) (allowance : ℕ) (room : List ℕ) where
-  -- The answer to the card's chart and the log.
-  abbrev answered_by_the_chart : Answer
-  answered_by_the_chart = answer (card_chart card) (log_of log) allowance (usable (length room))
-
   -- The card or the log was refused: 1 to 8.
   pub refusal_judges : (refused : Refusal) → refusal card log ≡ Err refused
       → Judges card log allowance room (refused_at (number_of refused) (place_of refused)) room

@@ -18,15 +18,10 @@ pub in_rule_is_short : (log : List ℕ) → in_rule log ≡ true → length log 
 in_rule_is_short log passed =
     leb-true (length log) 256 (both_true (eqb (length log % 2) 0) (leb (length log) 256) passed).1
 
--- A log that is out of rule is refused with 7, whatever its actions are; for any other its actions decide.
+-- A log that is out of rule is refused with 7, whatever its actions are.
 pub out_of_rule_is_seven :
     (lifelines messages : ℕ) (log : List ℕ) → in_rule log ≡ false → refusing lifelines messages log ≡ Err LogLength
 out_of_rule_is_seven lifelines messages log e = rw e
-
-pub in_rule_is_by_its_actions :
-    (lifelines messages : ℕ) (log : List ℕ) → in_rule log ≡ true
-    → refusing lifelines messages log ≡ undeclared lifelines messages log
-in_rule_is_by_its_actions lifelines messages log e = rw e
 
 -- A log in which nothing is found is in rule.
 pub fine_is_in_rule :

@@ -13,7 +13,7 @@ use Rattle.chart_spec.specs.Chart.{Order, Loop}
 use Rattle.chart_spec.specs.Chart.Order.{strict, seq, par}
 use Rattle.chart_spec.specs.Chart.Loop.{each, head}
 use Rattle.node.specs.declared.Node.{Node}
-use Rattle.node_spec.specs.Row.{children}
+use Rattle.node_spec.specs.Row.{children, Below}
 use Rattle.node_spec.specs.Kind.{Kind, kind_of, all_kinds, Pair}
 use Rattle.node_spec.specs.Kind.Pair.{composed, choice}
 use Rattle.node_spec.specs.Kind.Kind.{nothing, action, pairs, loops, unknown}
@@ -100,3 +100,10 @@ module _ (n : Node) where
 
   pub children_of_the_unknown : 11 ≤ n.kind → children n ≡ []
   children_of_the_unknown low = rw (above_ten_is_unknown n.kind low)
+
+  -- What children that are all below m say, by the ranges.
+  pub below_of_a_pair : {m : ℕ} → 3 ≤ n.kind → n.kind ≤ 6 → Below m (children n) → (n.a < m) × (n.b < m)
+  below_of_a_pair low high below = let (a, (b, rest)) = rw (children_of_a_pair low high) at below in (a, b)
+
+  pub below_of_a_loop : {m : ℕ} → 7 ≤ n.kind → n.kind ≤ 10 → Below m (children n) → n.a < m
+  below_of_a_loop low high below = let (a, rest) = rw (children_of_a_loop low high) at below in a

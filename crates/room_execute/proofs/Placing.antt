@@ -20,7 +20,7 @@ use Rattle.node_spec.proofs.Ranges.{three_to_six_are_pairs}
 use Rattle.room_spec.specs.declared.Root.{Root}
 use Rattle.room_spec.specs.declared.Missing.{Missing}
 use Rattle.room_spec.specs.Room.{node_in, chart_in, Table, Rooted, Stands, Kept}
-use Rattle.room_spec.specs.Building.{Held, Builds, Follows}
+use Rattle.room_spec.specs.Building.{Builds, Follows}
 use Rattle.room_spec.proofs.Standing.{kept_self, kept_node, kept_chart, kept_table, kept_then}
 use Rattle.room_spec.proofs.Apart.{
   Reading,
@@ -224,12 +224,6 @@ module _ (work : Working) (k : ℕ) (a : Action) where
       where
         built : Builds before used (get_or (follows_at n.a) k new_empty) middle x
         built = on_body.1
-
-        pub asks_to_go_round : Held middle x × Rooted middle place × place < x.used
-        asks_to_go_round =
-            let more : used ≤ x.used = builds_more built table.counted in
-            let inside : place < length middle = omega (arith, r.root.inside, built.kept.long) in
-            (built.held, table_rooted middle x.used place built.held.table (omega arith) inside, omega arith)
 
         pub one_round :
             (after : List ℕ) (y : Root)

@@ -1,7 +1,7 @@
 -- Each node of a sound card fits into a place. So what is laid into a room is the card's row of nodes, and the chart at
 -- its root is the card's chart.
 -- Assumes nothing.
-use Rattle.std.specs.Prelude.{Some, None}
+use Rattle.std.specs.Prelude.{Some}
 use Prim.Native.Nat.{ℕ, zero, suc, ◌+◌, ◌-◌, ◌<◌, ◌≤◌}
 use mathlib.Core.Bool.{true}
 use mathlib.Core.List.{List, [], ◌∷◌, ◌++◌, map, map-append}
@@ -9,7 +9,7 @@ use mathlib.Core.Path.{◌≡◌, refl, ap, sym, subst, ◌∙◌}
 use native.Mathlib.Decide.{ℕ_discrete}
 use native.Mathlib.Omega.{arith}
 use lib.Dec.{T, eqb, ltb}
-use borrow.Author.Tests.{eqb-true, ltb-true, lt-ltb, le-ltb}
+use borrow.Author.Tests.{eqb-true, ltb-true, le-ltb}
 use lib.ListN.{length, get_or, drop, set, length-append, length-map, length-drop, get_or-map, get_or-append}
 use lib.Seq.{set_at, drop-cons, append_snoc, get_or_at}
 use Rattle.chart_spec.specs.Chart.Chart.{empty}
@@ -145,13 +145,7 @@ module _ (card : List ℕ) (sound : Sound card) where
       ∙ charts_keep row (nodes_in rest) (taken card - 1) (omega (arith, (sound→faultless card sound).some))
       ∙ ap (λ m. get_or (charts row) (m - 1) empty) (sym long)
 
--- The two answers: too little room, and the whole chart.
-pub too_little :
-    (card room : List ℕ) → length room < taken card → (None ≡ laying card room) × (room ≡ laid_in card room)
-too_little card room h =
-    let short = lt-ltb (length room) (taken card) h in
-    (rw short, rw short)
-
+-- The whole chart, and how a loop comes to it.
 module _ (card room nodes : List ℕ) (theirs : nodes ≡ nodes_of card) (i : ℕ) (now : List ℕ)
     (so_far : now ≡ placed nodes i room) where
   pub whole :
@@ -180,6 +174,3 @@ module _ (card room nodes : List ℕ) (theirs : nodes ≡ nodes_of card) (i : �
             ∙ ap (λ m. placed nodes m room) (sym more),
         e ∙ root_inside now i inside ∙ ap (λ p. record { place = p; used = i + 1 }) (sym place),
       )
-
-  pub placed_as_long : i ≤ length room → length now ≡ length room
-  placed_as_long enough = ap length so_far ∙ placed_length nodes i room enough

@@ -238,11 +238,6 @@ module _ (work : Working) (d : ℕ) where
 
       module _ (room : List ℕ) (right : Option Root)
           (at_right : Prunes middle left.used (chart_in middle n.b) d room right) where
-        pub above_right : Table room (above right 0)
-        above_right =
-            prunes_table middle left.used (chart_in middle n.b) d room right 0 (omega arith)
-            on_left.1.held.table at_right
-
         pub at_a_pair :
             Prunes before used (chart_in before place) d (pair_in room n.kind left right)
             (pair_of room n.kind left right)

@@ -1,6 +1,6 @@
 -- What is built by adding nodes: one more node, whose parts stand at lower places, takes one more place, and its chart
--- stands there; a pair, a loop and an empty are cases of it. If the room is exceeded, nothing is written, and the count
--- stays one above the room's length.
+-- stands there; a pair, a loop and an empty are cases of it. If the room is exceeded, the count stays one above the
+-- room's length.
 -- Assumes nothing.
 use Prim.Native.Nat.{ℕ, suc, ◌+◌, ◌<◌, ◌≤◌}
 use mathlib.Core.List.{List}
@@ -8,7 +8,7 @@ use mathlib.Core.Path.{◌≡◌, refl, ap, sym, subst, ◌∙◌}
 use native.Mathlib.Decide.{ℕ_discrete}
 use native.Mathlib.Omega.{arith}
 use lib.ListN.{length, length-set}
-use lib.Seq.{get_or-set_same, take-set-le, set_out}
+use lib.Seq.{get_or-set_same, take-set-le}
 use Rattle.chart_spec.specs.Chart.{Loop}
 use Rattle.chart_spec.specs.Executing.{Made, chart_of, cost_of}
 use Rattle.chart_spec.specs.Executing.Made.{kept, new_empty, new_alt, new_pair, new_loop}
@@ -212,22 +212,12 @@ empty_builds room used table =
     (λ h. (record { kind = omega arith; a = omega arith; b = omega arith }, rw is tt))
     (λ h. rw is)
 
--- The root of a node that was added, in a room that has a place left and in one that is full.
+-- The root of a node that was added, in a room that has a place left.
 pub root_inside : (room : List ℕ) (used : ℕ) → used < length room
     → root_at room used ≡ record { place = used; used = used + 1 }
 root_inside room used h =
     let same : counted (length room) (used + 1) ≡ used + 1 = omega arith in
     rw same
-
-pub root_beyond :
-    (room : List ℕ) (used : ℕ) → length room ≤ used
-    → root_at room used ≡ record { place = used; used = length room + 1 }
-root_beyond room used h =
-    let same : counted (length room) (used + 1) ≡ length room + 1 = omega arith in
-    rw same
-
-pub nothing_added : (room : List ℕ) (used : ℕ) (n : Node) → length room ≤ used → added room used n ≡ room
-nothing_added room used n h = set_out room used (word_of n) h
 
 -- What was built stays built if its places are kept afterwards, or if the places below it were kept before.
 pub builds_kept :

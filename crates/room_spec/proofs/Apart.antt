@@ -21,8 +21,8 @@ use Rattle.node_spec.proofs.Ranges.{
   six_is_the_choice,
   seven_to_ten_are_loops,
   above_ten_is_unknown,
-  children_of_a_pair,
-  children_of_a_loop,
+  below_of_a_pair,
+  below_of_a_loop,
 }
 use Rattle.room_spec.specs.declared.Root.{Root}
 use Rattle.room_spec.specs.Room.{nodes_in, node_in, chart_in, Table, Rooted, Stands, Kept}
@@ -127,16 +127,10 @@ module _ (r : Reading) where
 
   -- The parts of a pair and of a loop stand at lower places.
   pub left_lower : 3 ≤ n.kind → n.kind ≤ 6 → (n.a < place) × Rooted room n.a
-  left_lower low high =
-      let (a, rest) = rw (children_of_a_pair n low high) at lower in
-      (a, rooted_below n.a a)
+  left_lower low high = let (a, b) = below_of_a_pair n low high lower in (a, rooted_below n.a a)
 
   pub right_lower : 3 ≤ n.kind → n.kind ≤ 6 → (n.b < place) × Rooted room n.b
-  right_lower low high =
-      let (a, (b, rest)) = rw (children_of_a_pair n low high) at lower in
-      (b, rooted_below n.b b)
+  right_lower low high = let (a, b) = below_of_a_pair n low high lower in (b, rooted_below n.b b)
 
   pub body_lower : 7 ≤ n.kind → n.kind ≤ 10 → (n.a < place) × Rooted room n.a
-  body_lower low high =
-      let (a, rest) = rw (children_of_a_loop n low high) at lower in
-      (a, rooted_below n.a a)
+  body_lower low high = let a = below_of_a_loop n low high lower in (a, rooted_below n.a a)

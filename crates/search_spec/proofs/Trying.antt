@@ -1,8 +1,8 @@
 -- One choice: what the code tries is what the definition tries. A follow-up that exceeds the room stops both; any other
--- has the definition's chart and places. Also: what a choice leaves of the allowance, and how deep it gets.
+-- has the definition's chart and places. Also: how deep a choice gets that fails.
 -- Assumes nothing.
 use Rattle.std.specs.Prelude.{Ok}
-use Prim.Native.Nat.{ℕ, suc, ◌+◌, ◌-◌, max, ◌<◌, ◌≤◌}
+use Prim.Native.Nat.{ℕ, ◌+◌, ◌<◌, ◌≤◌}
 use mathlib.Core.Bool.{Bool, true, false}
 use mathlib.Core.List.{List}
 use mathlib.Core.Logic.{◌↔◌}
@@ -11,7 +11,7 @@ use native.Mathlib.Decide.{dec_lt}
 use native.Mathlib.Omega.{arith}
 use lib.Dec.{leb, ltb}
 use lib.ListN.{length, get_or}
-use borrow.Author.Tests.{lt-ltb, le-ltb, le-leb, lt-leb}
+use borrow.Author.Tests.{lt-ltb, le-ltb}
 use Rattle.chart_spec.specs.Action.{Log}
 use Rattle.chart_spec.specs.Chart.{Chart}
 use Rattle.chart_spec.specs.Executing.{Made, chart_of, cost_of}
@@ -20,13 +20,11 @@ use Rattle.chart_spec.specs.Lending.{Ending, follow_up, walk}
 use Rattle.room_spec.specs.declared.Root.{Root}
 use Rattle.room_spec.specs.Room.{chart_in}
 use Rattle.room_spec.specs.Building.{Follows}
-use Rattle.room_spec.proofs.Standing.{kept_self}
 use Rattle.room_spec.proofs.Onward.{exceeds_the_room, follow_up_costs, follow_up_stands}
-use Rattle.number.specs.declared.Refusal.TheVariants.{AllowanceSpent, RoomExceeded}
 use Rattle.search_spec.specs.declared.Tally.{Tally}
-use Rattle.search_spec.specs.declared.Outcome.TheVariants.{Failed, Stopped}
+use Rattle.search_spec.specs.declared.Outcome.TheVariants.{Failed}
 use Rattle.search_spec.specs.declared.Ended.{Ended}
-use Rattle.search_spec.specs.Ending.{ending_by, Searches, Attempts}
+use Rattle.search_spec.specs.Ending.{ending_by, Attempts}
 use Rattle.search_spec.proofs.Deepest.{Within, follow_up_within, walk_within}
 
 -- A stop because of the room does not depend on the follow-up.
@@ -81,52 +79,6 @@ module _ (allowance : ℕ) (rest : Log) where
         follow_up_alike b (length after) x.used n (goes (length after) (chart_in after x.place) x.used)
         (goes (length after) (chart_of part) n) s p alike same
         ∙ ap (λ l. follow_up b (ltb l n) n (goes l (chart_of part) n) s p) long
-
-module _ (before : List ℕ) (rest : Log) (x : Root) (tally : Tally) where
-  -- "A follow-up is wanted and the allowance is spent."
-  pub spent_stops : tally.left ≡ 0
-      → Attempts before rest x tally before (record { outcome = Stopped AllowanceSpent; tally = tally })
-  spent_stops none =
-      record {
-        kept = kept_self x.used before;
-        left = omega arith;
-        step = λ deepest told. cc;
-        ends = λ steps.
-            let made : steps + tally.left - tally.left ≡ steps = omega arith in
-            rw (le-leb (steps + tally.left) steps (omega arith), made);
-      }
-
-  module _ (some : ¬ (tally.left ≡ 0)) where
-    unspent : (steps : ℕ) → leb (steps + tally.left) steps ≡ false
-    unspent steps = lt-leb (steps + tally.left) steps (omega arith)
-
-    -- "The next whole follow-up exceeds the usable room."
-    pub exceeding_stops : length before < x.used
-        → Attempts before rest x tally before (record { outcome = Stopped RoomExceeded; tally = tally })
-    exceeding_stops over =
-        record {
-          kept = kept_self x.used before;
-          left = omega arith;
-          step = λ deepest told. cc;
-          ends = λ steps.
-              let made : steps + tally.left - tally.left ≡ steps = omega arith in
-              rw (unspent steps, lt-ltb (length before) x.used over, made);
-        }
-
-    -- Else it is a step, and the search goes on from it.
-    pub fitting_goes_on :
-        (after : List ℕ) (r : Ended) → x.used ≤ length before
-        → Searches before rest x (record { left = tally.left - 1; places = max tally.places x.used }) after r
-        → Attempts before rest x tally after r
-    fitting_goes_on after r fits searched =
-        record {
-          kept = searched.kept;
-          left = omega (arith, searched.left);
-          step = λ deepest told. omega (arith, searched.left);
-          ends = λ steps.
-              let all : suc steps + (tally.left - 1) ≡ steps + tally.left = omega arith in
-              rw (unspent steps, le-ltb (length before) x.used fits) (rw all at (searched.ends (suc steps)));
-        }
 
 -- A choice that failed got no deeper than the rest of the log is long.
 pub attempt_within :

@@ -1,9 +1,8 @@
 -- `count_children` meets its contract: each arm of the match knows the children. Assumes nothing.
 use mathlib.Core.Path.{◌∙◌, ap}
-use mathlib.Core.List.{[], ◌∷◌}
 use native.Mathlib.Omega.{arith}
-use Rattle.node_spec.specs.Row.{Below}
 use Rattle.node_spec.proofs.Ranges.{children_of_a_leaf, children_of_a_pair, children_of_a_loop, children_of_the_unknown}
+use Rattle.node_spec.proofs.Ranges.{below_of_a_pair, below_of_a_loop}
 use Rattle.card_tree.specs.Counting.{one_more}
 use Rattle.card_tree.proofs.Counts.{one_more_grows_by_one}
 use Rattle.card_tree.proofs.count_children.Goals as goal
@@ -11,25 +10,25 @@ use Rattle.card_tree.proofs.count_children.Goals as goal
 pub count_child-requires : goal.count_child-requires
 count_child-requires c =
     let n = c.args.n in
-    let low : Below 255 (n.a ∷ n.b ∷ []) = rw (children_of_a_pair n (omega arith) (omega arith)) at c.requires.0 in
-    (low.0, omega (arith, c.requires.1 n.a))
+    let (a, b) = below_of_a_pair n (omega arith) (omega arith) c.requires.0 in
+    (a, omega (arith, c.requires.1 n.a))
 
 pub count_child-requires-in-3-to-6 : goal.count_child-requires-in-3-to-6
 count_child-requires-in-3-to-6 c =
     let n = c.args.n in
-    let low : Below 255 (n.a ∷ n.b ∷ []) = rw (children_of_a_pair n (omega arith) (omega arith)) at c.requires.0 in
+    let (a, b) = below_of_a_pair n (omega arith) (omega arith) c.requires.0 in
     let counts = c.args.counts.now in
     let left = one_more_grows_by_one counts n.a n.a in
     let right = one_more_grows_by_one counts n.a n.b in (
-      omega (arith, low.0, low.1.0),
+      omega arith,
       rw c.count_child.ensures (omega (arith, c.requires.1 n.a, c.requires.1 n.b)),
     )
 
 pub count_child-requires-in-7-to-10 : goal.count_child-requires-in-7-to-10
 count_child-requires-in-7-to-10 c =
     let n = c.args.n in
-    let low : Below 255 (n.a ∷ []) = rw (children_of_a_loop n (omega arith) (omega arith)) at c.requires.0 in
-    (low.0, omega (arith, c.requires.1 n.a))
+    let a = below_of_a_loop n (omega arith) (omega arith) c.requires.0 in
+    (a, omega (arith, c.requires.1 n.a))
 
 pub returns-in-0-to-2 : goal.returns-in-0-to-2
 returns-in-0-to-2 c =

@@ -1,13 +1,8 @@
 -- `cut` meets its contract: the card or the lifeline is refused; else `cut_in` makes the cut of the sound card.
 -- Assumes nothing.
-use mathlib.Core.Path.{refl, ◌∙◌}
-use Rattle.cut_spec.proofs.Refusing.{asked→declared, asked_refused}
+use mathlib.Core.Path.{◌∙◌}
+use Rattle.cut_spec.proofs.Refusing.{asked_refused}
 use Rattle.cut.proofs.cut.Goals as goal
-
-pub cut_in-requires : goal.cut_in-requires
-cut_in-requires c =
-    let (same, passed) = c.in-Ok.ensures in
-    (rw same (asked→declared c.args.card.now c.args.lifeline passed), refl)
 
 pub returns-in-Err : goal.returns-in-Err
 returns-in-Err c =

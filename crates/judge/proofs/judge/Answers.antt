@@ -3,16 +3,8 @@
 use Prim.Native.Nat.{◌-◌}
 use mathlib.Core.Path.{◌∙◌}
 use native.Mathlib.Omega.{arith}
-use lib.ListN.{length-take}
-use Rattle.judge_spec.proofs.Refusing.{refusal_judges, passed→short, both_sound}
+use Rattle.judge_spec.proofs.Refusing.{refusal_judges, both_sound}
 use Rattle.judge.proofs.judge.Goals as goal
-
-pub judge_sound-requires : goal.judge_sound-requires
-judge_sound-requires c =
-    let s = c.args in (
-      passed→short s.card.now s.log.now s.allowance s.room.now c.in-Ok.ensures.1,
-      omega (arith, length-take (c.usable-end.result - 0) s.room.now, c.usable-end.ensures),
-    )
 
 pub returns-in-Ok : goal.returns-in-Ok
 returns-in-Ok c =

@@ -3,7 +3,7 @@
 use mathlib.Core.Path.{◌≡◌, sym, ap, ◌∙◌}
 use native.Mathlib.Omega.{arith}
 use Rattle.number.specs.declared.Refusal.TheVariants.{UndeclaredAction}
-use Rattle.card_spec.proofs.Lowest.{fine_so_far, found_here}
+use Rattle.card_spec.proofs.Lowest.{found_here}
 use Rattle.log_spec.specs.Bytes.{actions_of}
 use Rattle.log_spec.specs.Refusing.{declared, declared_at}
 use Rattle.log_bytes.proofs.lowest_undeclared.Goals as goal
@@ -25,9 +25,3 @@ returns-then-not-is_declared c =
     (found_here (declared_at s.lifelines s.messages log) UndeclaredAction c.loop-i.i (actions_of log) (omega arith)
     c.loop-i.invariant
     (sym (asked (goal.at.returns-then-not-is_declared c).After-is_declared) ∙ c.if-not-is_declared.true))
-
-pub loop-i-preserved : goal.loop-i-preserved
-loop-i-preserved c =
-    let s = c.args.counts in
-    fine_so_far (declared_at s.lifelines s.messages c.args.log.now) UndeclaredAction c.loop-i.i c.loop-i.invariant
-    (sym (asked (goal.at.loop-i-preserved c).After-is_declared) ∙ c.if-not-is_declared.false)
