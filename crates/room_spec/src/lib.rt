@@ -2,7 +2,7 @@
 // specs/Building.antt what the answers mean. The code is in the other crates `room_..`.
 #![tactic(auto)]
 
-ghost use Rattle.std.specs.Prelude.{◌≡◌};
+ghost use Rattle.std.specs.Prelude.{◌≡◌, length, ltb};
 
 // An action of a log.
 #[derive(Clone, Copy)]
@@ -32,6 +32,13 @@ impl Root {
             place,
             used: self.used,
         }
+    }
+
+    // Whether the part exceeds the room.
+    pub fn exceeds(self, room: &[u32]) -> bool
+        ensures { result ≡ ltb (length room.now) self.used }
+    {
+        room.len() < self.used as usize
     }
 }
 

@@ -35,7 +35,7 @@ fn attempt(rest: &[u8], room: &mut [u32], x: Root, tally: Tally) -> Ended
     ensures { Attempts room.old (log_of rest.now) x tally room.new result }
 {
     let spent = tally.left == 0;
-    let exceeds = room.len() < x.used as usize;
+    let exceeds = x.exceeds(room);
     if spent {
         let outcome = Outcome::Stopped(Refusal::AllowanceSpent);
         return Ended { outcome, tally };

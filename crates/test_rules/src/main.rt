@@ -85,7 +85,7 @@ fn follow_up(room: &mut [u32], root: Root, action: Action, k: u32) -> Option<Roo
     ensures stands { IfSome result (λ x. Stands room.new x) }
 {
     let x = room_execute::execute(room, root, k, &action).ok()?;
-    if room.len() < x.used as usize {
+    if x.exceeds(room) {
         return None;
     }
     Some(x)
