@@ -10,7 +10,7 @@ use arrayvec::ArrayString;
 use judge_spec::Judged;
 
 // The length of the longest line: `refused-N`, three times a blank and a number, and the line's end; N and each number
-// have at most ten digits.
+// have at most ten digits. (That there is room for a text is a clause of what pushes it: each pushes another one.)
 const LONGEST: usize = 52;
 
 // The digits of a number.

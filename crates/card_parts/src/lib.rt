@@ -22,8 +22,8 @@ pub fn trailer(card: &[u8], k: usize) -> u32
     u32::from(card[size - Node::TRAILER_BYTES + k])
 }
 
-// The back distance, low byte first: how many bytes the nodes take. (No `from_le_bytes`: a byte that a short card lacks
-// counts as 0.)
+// The back distance, low byte first: how many bytes the nodes take. (No `from_le_bytes`: `trailer` gives numbers, since
+// a byte that a short card lacks counts as 0; to make bytes of them first is no plainer.)
 pub fn back(card: &[u8]) -> usize
     ensures { result ≡ back_of card.now }
 {
@@ -73,7 +73,7 @@ pub fn count(nodes: &[u8]) -> usize
     nodes.len() / Node::NODE_BYTES
 }
 
-// Node i. (The bound of an index is a clause.)
+// Node i. (The bound of an index is a clause: a type for it would be made anew at each turn of a loop.)
 pub fn node_at(nodes: &[u8], i: usize) -> Node
     requires { i < count_of nodes.now }
     ensures { result ≡ node_at nodes.now i }

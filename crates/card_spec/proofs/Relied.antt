@@ -109,11 +109,6 @@ faultless card rule few fine =
           );
     }
 
-pub has_few_nodes : (card : List ℕ) → back_in_rule card ≡ true → count_of (nodes_of card) ≤ 255
-has_few_nodes card h =
-    let rule = back→ card h in
-    omega (arith, length_nodes card rule, rule.few)
-
 pub has_few_lifelines : (card : List ℕ) → counts_in_range card ≡ true → lifelines_of card ≤ 16
 has_few_lifelines card h =
     let (l, m) = both_true (within 1 (lifelines_of card) 16) (within 1 (messages_of card) 64) h in

@@ -8,7 +8,7 @@ use mathlib.Core.Path.{◌≡◌, refl, ap, sym, ◌∙◌}
 use native.Mathlib.Omega.{arith}
 use lib.Dec.{ltb}
 use lib.ListN.{length, drop}
-use borrow.Author.Tests.{ltb-true, lt-ltb, le-ltb, lt-leb, le-leb}
+use borrow.Author.Tests.{lt-ltb, le-ltb, lt-leb, le-leb}
 use Rattle.chart_spec.specs.Executing.{evades}
 use Rattle.std.specs.Prelude.{Result, Ok, Err}
 use Rattle.number.specs.declared.Refusal.{Refusal}
@@ -19,7 +19,6 @@ use Rattle.card_spec.specs.Nodes.{card_chart}
 use Rattle.card_spec.specs.Findings.{or_else}
 use Rattle.card_spec.specs.Checking.{findings, first}
 use Rattle.card_spec.specs.Table.{Sound}
-use Rattle.card_spec.proofs.Lowest.{holds→, or_fine→}
 use Rattle.card_spec.proofs.Telling.{sound→nothing_found}
 use Rattle.write_spec.specs.Cards.{card_bytes}
 use Rattle.write_spec.proofs.Read.{length_card}
@@ -37,15 +36,6 @@ of_the_first_two (Err refused) g h e = e
 
 -- The card and the lifeline, whatever the output's length.
 module _ (card : List ℕ) (lifeline : ℕ) where
-  both_passed : asked card lifeline ≡ Ok tt
-      → (first (findings card) ≡ Ok tt) × (rule UndeclaredLifeline (ltb lifeline (lifelines_of card)) ≡ Ok tt)
-  both_passed = or_fine→ (first (findings card)) (rule UndeclaredLifeline (ltb lifeline (lifelines_of card)))
-
-  pub asked→declared : asked card lifeline ≡ Ok tt → lifeline < lifelines_of card
-  asked→declared e =
-      ltb-true lifeline (lifelines_of card)
-      (holds→ UndeclaredLifeline (ltb lifeline (lifelines_of card)) (both_passed e).1)
-
   -- If they are refused, so is the cut: 1 to 6, or 11.
   asked_first : (long : ℕ) (refused : Refusal) → asked card lifeline ≡ Err refused
       → refusal card lifeline long ≡ Err refused

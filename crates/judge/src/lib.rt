@@ -15,7 +15,8 @@ use number::Refusal;
 use search_spec::Tally;
 
 // The answer to a sound card and log, in a room that is usable as a whole. (The two lengths are clauses here and in
-// `judge_sound`, and no type: `room_lay::lay` and `search::search` ask them so, and what these require may not change.)
+// `judge_sound`, and no type: `room_lay::lay` and `search::search` ask them so, and what these require may not change.
+// Card, log, allowance and room are no type either: C lends them one by one.)
 fn answer_in(card: SoundCard, log: &[u8], allowance: u32, room: &mut [u32]) -> Judged
     requires { length log.now ≤ 256 × length room.old ≤ 16384 }
     ensures { result ≡ judged_of (answer (card_chart card.entry.bytes.now) (log_of log.now) allowance

@@ -11,7 +11,7 @@ use judge_spec::Judged;
 use search_spec::{Ended, Outcome};
 
 // The number, as C is given it, of a log that was not accepted: it deviates if no path got through the whole log, else
-// it is short.
+// it is short. (An enum for the one call between here and `Judged` would be no plainer.)
 fn unaccepted(deepest: u32, actions: u32) -> u32
     ensures { result ≡ unaccepted (ltb deepest actions) }
 {

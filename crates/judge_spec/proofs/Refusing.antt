@@ -1,8 +1,9 @@
--- What was found decides the judgment and the room afterwards: the card or the log was refused; or neither, and the
--- answer is that of the chart and the log.
+-- What was found decides the judgment and the room afterwards: the card was refused; or the log was; or neither, and
+-- the answer is that of the chart and the log.
 -- Assumes nothing.
-use Prim.Native.Nat.{ℕ, ◌≤◌}
+use Prim.Native.Nat.{ℕ}
 use mathlib.Core.List.{List, ◌++◌}
+use mathlib.Core.Logic.{◌≢◌}
 use mathlib.Core.Path.{◌≡◌, refl, ap, ◌∙◌}
 use native.Mathlib.Omega.{arith}
 use lib.ListN.{length, take, drop, replicate, length-take}
@@ -12,13 +13,13 @@ use Rattle.number.specs.declared.Refusal.{Refusal}
 use Rattle.number.specs.Refusals.{number_of, place_of}
 use Rattle.card_spec.specs.Parts.{lifelines_of, messages_of}
 use Rattle.card_spec.specs.Nodes.{card_chart}
-use Rattle.card_spec.specs.Checking.{findings, first}
+use Rattle.card_spec.specs.declared.Checked.{Checked}
+use Rattle.card_spec.specs.Checking.{checking}
 use Rattle.card_spec.specs.Table.{Sound}
-use Rattle.card_spec.proofs.Lowest.{or_fine→}
+use Rattle.card_spec.proofs.Answers.{refused_so_found}
 use Rattle.card_spec.proofs.Telling.{sound→nothing_found}
 use Rattle.log_spec.specs.Bytes.{log_of}
 use Rattle.log_spec.specs.Refusing.{refusing}
-use Rattle.log_spec.proofs.Rules.{fine_is_in_rule, in_rule_is_short}
 use Rattle.judge_spec.specs.declared.Judged.{Judged}
 use Rattle.judge_spec.specs.Judgment.{usable, refusal, judged_of, refused_at, judgment, room_after, Judges}
 
@@ -33,21 +34,20 @@ module _ (card log : List ℕ) (allowance : ℕ) (room : List ℕ) where
   unfolding judgment room_after
   refusal_judges refused e = rw e (refl, refl)
 
-  pub card_refused : (refused : Refusal) → first (findings card) ≡ Err refused → refusal card log ≡ Err refused
-  card_refused refused e = rw e
+  -- The card was refused: 1 to 6.
+  pub card_refused : (checked : Checked) → checked ≡ checking card → checked.number ≢ 0
+      → Judges card log allowance room (refused_at checked.number checked.place) room
+  card_refused checked e h =
+      let (refused, found, is) = refused_so_found card (rw e at h) in
+      rw (e, is) (refusal_judges refused (rw found refl))
 
+  -- The log was refused: 7 or 8.
   pub log_refused : (refused : Refusal) → Sound card
-      → refusing (lifelines_of card) (messages_of card) log ≡ Err refused → refusal card log ≡ Err refused
-  log_refused refused sound e = rw (sound→nothing_found card sound, e)
+      → refusing (lifelines_of card) (messages_of card) log ≡ Err refused
+      → Judges card log allowance room (refused_at (number_of refused) (place_of refused)) room
+  log_refused refused sound e = refusal_judges refused (rw (sound→nothing_found card sound, e) refl)
 
-  -- Neither was refused: the log is short,
-  pub passed→short : refusal card log ≡ Ok tt → length log ≤ 256
-  passed→short e =
-      in_rule_is_short log
-      (fine_is_in_rule (lifelines_of card) (messages_of card) log
-      (or_fine→ (first (findings card)) (refusing (lifelines_of card) (messages_of card) log) e).1)
-
-  -- and the judgment used the usable part of the room and cleared it.
+  -- Neither was refused: the judgment used the usable part of the room and cleared it.
   pub both_sound : (r : Judged) (end : ℕ) (part : List ℕ) → refusal card log ≡ Ok tt
       → end ≡ usable (length room)
       → r ≡ judged_of (answer (card_chart card) (log_of log) allowance (length (take end room)))

@@ -4,7 +4,7 @@
 use Prim.Native.Nat.{ℕ, ◌/◌, ◌%◌, ◌<◌, ◌≤◌}
 use mathlib.Core.Bool.{Bool, true, false}
 use mathlib.Core.List.{List}
-use mathlib.Core.Path.{◌≡◌, refl, sym, ap, ◌∙◌}
+use mathlib.Core.Path.{◌≡◌, refl, sym, ◌∙◌}
 use native.Mathlib.Decide.{ℕ_discrete}
 use lib.ListN.{length}
 use Rattle.chart_spec.specs.Lending.{answer}
@@ -19,16 +19,14 @@ use Rattle.card_spec.proofs.Deciding.{at_least_six, same_lifelines, same_message
 use Rattle.card_spec.proofs.LowestAt.{Looked, look, no_fault→fine, lowest→refused}
 use Rattle.card_spec.proofs.LowestAt.Looked.{nowhere, somewhere}
 use Rattle.card_spec.proofs.Promises.{given_exactly_as_the_table_tells, zero_exactly_for_sound_cards}
-use Rattle.card_spec.proofs.Answers.{refused_so_found}
 use Rattle.card_spec.proofs.Telling.{sound→nothing_found}
-use Rattle.number.specs.Refusals.{number_of, place_of}
 use Rattle.log_spec.specs.Bytes.{log_of, action_at}
 use Rattle.log_spec.specs.Refusing.{in_rule, declared, undeclared, refusing}
 use Rattle.judge_spec.specs.Judgment.{usable, judged_of, refused_at, judgment, cleared, room_after, Judges}
 use Rattle.judge_spec.specs.Table as table
 use Rattle.judge_spec.specs.Table.{OddOrLong, UndeclaredAt, SoundBoth}
 use Rattle.judge_spec.specs.Table.Refused.{by_the_card, seven, eight}
-use Rattle.judge_spec.proofs.Refusing.{refusal_judges, card_refused, log_refused}
+use Rattle.judge_spec.proofs.Refusing.{card_refused, log_refused}
 
 -- 7
 rule_decided : (log : List ℕ) → Decided (in_rule log) (OddOrLong log)
@@ -104,17 +102,11 @@ module _ (card log : List ℕ) where
         → Judges card log allowance room (refused_at number place) room
     refused_judges (by_the_card {number} {place} h told) =
         let (n, p) = (given_exactly_as_the_table_tells card _ _).1 told in
-        let (refused, found, is) = refused_so_found card (λ e. h (sym n ∙ e)) in
-        let number_is : number_of refused ≡ number = sym (ap (λ a. a.number) is) ∙ n in
-        let place_is : place_of refused ≡ place = sym (ap (λ a. a.place) is) ∙ p in
-        rw (number_is, place_is) at
-        (refusal_judges card log allowance room refused (card_refused card log allowance room refused found))
+        rw (n, p) at (card_refused card log allowance room (checking card) refl (λ e. h (sym n ∙ e)))
     refused_judges (seven sound h) =
-        refusal_judges card log allowance room LogLength
-        (log_refused card log allowance room LogLength sound (found_seven sound h))
+        log_refused card log allowance room LogLength sound (found_seven sound h)
     refused_judges (eight {i = i} sound whole l) =
-        refusal_judges card log allowance room (UndeclaredAction i)
-        (log_refused card log allowance room (UndeclaredAction i) sound (found_eight sound whole i l))
+        log_refused card log allowance room (UndeclaredAction i) sound (found_eight sound whole i l)
 
     -- Sound: the answer to the chart and the log, and the usable room zeroed.
     pub sound_judges : SoundBoth card log

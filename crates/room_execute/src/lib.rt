@@ -13,7 +13,8 @@ ghost use Rattle.room_execute.specs.Occurrences.{occurrences};
 use node::Node;
 use room_spec::{Action, Missing, Root};
 
-// Whether a node of kind 1 or 2 is that action. (No `==`: a node and an action are two types.)
+// Whether a node of kind 1 or 2 is that action. (No `==`: a node and an action are two types, and a `From` for it would
+// have to make an action of every node, of an alt too.)
 fn is(node: Node, action: &Action) -> bool
     ensures { result ≡ same (action_of action.now)
         (record { line = node.a; receives = eqb node.kind 2; message = node.b }) }

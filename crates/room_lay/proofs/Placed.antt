@@ -1,7 +1,6 @@
 -- Each node of a sound card fits into a place. So what is laid into a room is the card's row of nodes, and the chart at
 -- its root is the card's chart.
 -- Assumes nothing.
-use Rattle.std.specs.Prelude.{Some}
 use Prim.Native.Nat.{ℕ, zero, suc, ◌+◌, ◌-◌, ◌<◌, ◌≤◌}
 use mathlib.Core.Bool.{true}
 use mathlib.Core.List.{List, [], ◌∷◌, ◌++◌, map, map-append}
@@ -9,7 +8,7 @@ use mathlib.Core.Path.{◌≡◌, refl, ap, sym, subst, ◌∙◌}
 use native.Mathlib.Decide.{ℕ_discrete}
 use native.Mathlib.Omega.{arith}
 use lib.Dec.{T, eqb, ltb}
-use borrow.Author.Tests.{eqb-true, ltb-true, le-ltb}
+use borrow.Author.Tests.{eqb-true, ltb-true}
 use lib.ListN.{length, get_or, drop, set, length-append, length-map, length-drop, get_or-map, get_or-append}
 use lib.Seq.{set_at, drop-cons, append_snoc, get_or_at}
 use Rattle.chart_spec.specs.Chart.Chart.{empty}
@@ -33,7 +32,7 @@ use Rattle.room_spec.specs.Room.{nodes_in, node_in, chart_in, Table}
 use Rattle.room_spec.specs.declared.Root.{Root}
 use Rattle.room_spec.specs.Building.{added, root_at}
 use Rattle.room_spec.proofs.Adding.{root_inside}
-use Rattle.room_lay.specs.Rooms.{placed, taken, laying, laid_in}
+use Rattle.room_lay.specs.Rooms.{placed, taken}
 
 fits : (n : Node) → Known (kind_of n.kind) → n.a < 16384 → n.b < 16384 → Fitting n
 fits n known a b = record { kind = omega (arith, known_kinds n.kind known); a = a; b = b }
@@ -145,16 +144,9 @@ module _ (card : List ℕ) (sound : Sound card) where
       ∙ charts_keep row (nodes_in rest) (taken card - 1) (omega (arith, (sound→faultless card sound).some))
       ∙ ap (λ m. get_or (charts row) (m - 1) empty) (sym long)
 
--- The whole chart, and how a loop comes to it.
+-- How a loop lays the chart.
 module _ (card room nodes : List ℕ) (theirs : nodes ≡ nodes_of card) (i : ℕ) (now : List ℕ)
     (so_far : now ≡ placed nodes i room) where
-  pub whole :
-      (root : Root) → i ≡ taken card → taken card ≤ length room → root ≡ record { place = i - 1; used = i }
-      → (Some root ≡ laying card room) × (now ≡ laid_in card room)
-  whole root all enough e =
-      let long = le-ltb (length room) (taken card) enough in
-      (rw (long, e, all), rw long (so_far ∙ rw (theirs, all)))
-
   pub placed_so_far :
       Sound card → length room ≤ 16384 → i ≤ taken card → i ≤ length room → Table now i
   placed_so_far sound usable some enough =

@@ -10,8 +10,7 @@ ghost use Rattle.room_lay.specs.Rooms.{taken, laying, laid_in};
 use room_spec::Root;
 
 // Lays the chart of a sound card into the first places of a room that has enough of them.
-// (`Sound` is a clause here and in `lay`, and no `SoundCard` is taken: both are public, and what they require may not
-// change.)
+// (`Sound` is a clause here and in `lay`: a `SoundCard` would ask more, since only `card_check::pass` makes one.)
 pub fn lay_whole(card: &[u8], room: &mut [u32]) -> Root
     requires { Sound card.now × taken card.now ≤ length room.old × length room.old ≤ 16384 }
     ensures { Some result ≡ laying card.now room.old

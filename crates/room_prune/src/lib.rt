@@ -27,7 +27,8 @@ fn pair_of(room: &mut [u32], kind: u32, left: Root, right: Option<Root>) -> Opti
     }
 }
 
-// What is left of a loop of that kind, given what is left of its body: a loop of that, or an empty.
+// What is left of a loop of that kind, given what is left of its body: a loop of that, or an empty. (Kinds are numbers:
+// see `Node`.)
 pub fn loop_of(room: &mut [u32], kind: u32, body: Option<Root>, used: u32) -> Root
     requires { Table room.old (above body used) }
     ensures { result ≡ loop_of room.old body used × room.new ≡ loop_in room.old kind body used }

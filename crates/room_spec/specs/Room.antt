@@ -35,7 +35,8 @@ pub record Rooted (room : List ℕ) (place : ℕ) : Type 0 where
   pub inside : place < length room
   pub table : Table room (suc place)
 
--- A part stands in a room: the places in use with it are a table, and its root is one of them.
+-- A part stands in a room: the places in use with it are a table, and its root is one of them. Functions ask it in a
+-- clause, and not by a type: it is a fact of a part and of a room that is lent and written meanwhile.
 abbrev pub Stands : List ℕ → Root → Type 0
 Stands room root = Table room root.used × Rooted room root.place × root.place < root.used
 

@@ -12,6 +12,7 @@ use room_spec::{Action, Root};
 use std::io;
 use std::io::Stdout;
 
+// What is printed of a test; std prints `true` and `false`.
 fn word(is: bool) -> &'static str {
     if is { "yes" } else { "no" }
 }
@@ -84,7 +85,8 @@ fn emission(message: u32) -> Action {
     }
 }
 
-// Lays the card, executes the log, and asks.
+// Lays the card, executes the log, and asks. (test_rules lays a card and takes follow-ups in this way too. A program is
+// a crate of its own, and one more crate for the few lines would be no plainer.)
 fn run(stdout: Stdout, card: &[u8], room: &mut [u32]) -> io::Result<()>
     requires { length room.old ≤ 16384 }
 {

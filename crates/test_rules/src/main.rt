@@ -30,7 +30,8 @@ fn write_action(stdout: Stdout, action: Action) -> io::Result<()> {
     print!(stdout; "{}{mark}{}", action.lifeline, action.message)
 }
 
-// The chart at a place.
+// The chart at a place. (No `Display` for what is written here: a chart is a place and the room that it stands in, and a
+// type of both would stand for this alone.)
 fn write_chart(stdout: Stdout, room: &[u32], place: u32) -> io::Result<()>
     requires { Rooted room.now place }
 {

@@ -55,7 +55,7 @@ fn put(out: &mut [u8], number: u32, node: Node) -> u32
 }
 
 // Stores the records of a part's nodes, left part before right part before parent, numbered from `first` on, and
-// returns the next node's number. (C lends the output, so that number goes beside it.)
+// returns the next node's number. (That number goes beside the output, since it is also what a parent calls its child.)
 fn write(room: &[u32], place: u32, out: &mut [u8], first: u32) -> u32
     requires { Rooted room.now place × Writable (chart_in room.now place) first out.old }
     ensures { Writes (chart_in room.now place) first out.old result out.new }
@@ -76,7 +76,8 @@ fn write(room: &[u32], place: u32, out: &mut [u8], first: u32) -> u32
     }
 }
 
-// Stores the trailer after nodes that take `back` bytes. (No `to_le_bytes`: each byte is stored by `store`.)
+// Stores the trailer after nodes that take `back` bytes. (No `to_le_bytes`: `store` takes one byte, so its two would be
+// named and then stored, which is no plainer.)
 fn put_trailer(out: &mut [u8], back: usize, counts: Counts)
     requires { back + 6 ≤ length out.old × back < 65536 × counts.lifelines < 256 × counts.messages < 256 }
     ensures { out.new ≡ sets out.old back (trailer_of back counts.lifelines counts.messages) }
