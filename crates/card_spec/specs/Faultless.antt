@@ -8,7 +8,8 @@ use Rattle.card_spec.specs.Nodes.{count_of, node_at}
 use Rattle.card_spec.specs.Figures.{acts_as}
 
 -- One to 255 nodes, children lower than their parents, and lifelines that a set of 16 bits can hold. This is a clause
--- of four functions and no type: `depth` and `acting` are public, and what they require may not change.
+-- of four functions and no type: docs/DECISIONS.md names `acting`, and what that requires may not change; a type for the
+-- other three would stand beside the clause.
 pub record Faultless (nodes : List ℕ) : Type 0 where
   pub some : 1 ≤ count_of nodes
   pub few : count_of nodes ≤ 255
