@@ -33,16 +33,14 @@ fn is_orderly(nodes: &[u8], i: usize, counts: Counts) -> bool
     is_in_order(card_parts::node_at(nodes, i), c, i as u32, counts)
 }
 
-// Refuses the lowest node with a fault. (`lowest_undeclared` of log_bytes is like this; one function for both would
-// need a test and a refusal as closures, each with a contract, in place of a loop of five lines.)
+// Refuses the lowest node with a fault.
 pub fn lowest_faulty(nodes: &[u8], counts: Counts) -> Result<(), Refusal>
     requires { count_of nodes.now ≤ 255 }
     ensures { result ≡ faulty counts.lifelines counts.messages nodes.now }
 {
-    for i in 0..card_parts::count(nodes) {
-        if !is_orderly(nodes, i, counts) {
-            return Err(Refusal::FaultyNode { node: i as u32 });
-        }
+    let first = (0..card_parts::count(nodes)).find(|&i| !is_orderly(nodes, i, counts));
+    match first {
+        Some(i) => Err(Refusal::FaultyNode { node: i as u32 }),
+        None => Ok(()),
     }
-    Ok(())
 }

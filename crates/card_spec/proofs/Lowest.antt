@@ -2,12 +2,12 @@
 -- the first that does not.
 -- All by induction on how many nodes were looked at.
 -- Assumes nothing.
-use Prim.Native.Nat.{ℕ, zero, suc, ◌<◌}
+use Prim.Native.Nat.{ℕ, zero, suc, ◌<◌, ◌≤◌}
 use mathlib.Core.Bool.{Bool, true, false}
 use mathlib.Core.Path.{◌≡◌, refl}
 use native.Mathlib.Decide.{ℕ_discrete}
 use native.Mathlib.Omega.{arith}
-use Rattle.std.specs.Prelude.{Result, Ok, Err}
+use Rattle.std.specs.Prelude.{Result, Ok, Err, Option, Some, None, MatchOption, option_map, unwrap_or}
 use Rattle.number.specs.declared.Refusal.{Refusal}
 use Rattle.number.specs.Refusals.{rule}
 use Rattle.card_spec.specs.Findings.{or_else, lowest}
@@ -40,6 +40,16 @@ module _ (passes : ℕ → Bool) (refusal : ℕ → Refusal) where
   pub none→fine : (n : ℕ) → ((i : ℕ) → i < n → passes i ≡ true) → lowest passes refusal n ≡ Ok tt
   none→fine zero none = refl
   none→fine (suc n) none = rw (none→fine n (λ i h. none i (omega arith)), none n (omega arith))
+
+  -- The first of n that does not pass is the lowest.
+  pub first_is_lowest :
+      (n : ℕ) (first : Option ℕ)
+      → MatchOption first ((k : ℕ) → 0 ≤ k → k < n → passes k ≡ true)
+      (λ i. (0 ≤ i) × (i < n) × (passes i ≡ false) × ((k : ℕ) → 0 ≤ k → k < i → passes k ≡ true))
+      → lowest passes refusal n ≡ unwrap_or (option_map (λ i. Err (refusal i)) first) (Ok tt)
+  first_is_lowest n None all = none→fine n (λ i h. all i (omega arith) h)
+  first_is_lowest n (Some i) (low, inside, fails, before) =
+      found_here i n inside (none→fine i (λ k h. before k (omega arith) h)) fails
 
   -- and nothing is found only then.
   pub fine→none : (n : ℕ) → lowest passes refusal n ≡ Ok tt → (i : ℕ) → i < n → passes i ≡ true

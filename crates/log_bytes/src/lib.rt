@@ -51,18 +51,16 @@ fn is_declared(action: Action, counts: Counts) -> bool
     action.lifeline < counts.lifelines && action.message < counts.messages
 }
 
-// Refuses the lowest action with a lifeline or message not declared. (`lowest_faulty` of card_faults says why both have
-// a loop of their own.)
+// Refuses the lowest action with a lifeline or message not declared.
 fn lowest_undeclared(log: &[u8], counts: Counts) -> Result<(), Refusal>
     requires { length log.now ≤ 256 }
     ensures { result ≡ undeclared counts.lifelines counts.messages log.now }
 {
-    for i in 0..log.len() / ACTION_BYTES {
-        if !is_declared(action_at(log, i), counts) {
-            return Err(Refusal::UndeclaredAction { action: i as u32 });
-        }
+    let first = (0..log.len() / ACTION_BYTES).find(|&i| !is_declared(action_at(log, i), counts));
+    match first {
+        Some(i) => Err(Refusal::UndeclaredAction { action: i as u32 }),
+        None => Ok(()),
     }
-    Ok(())
 }
 
 // What refuses a log, given the card's numbers of lifelines and messages.

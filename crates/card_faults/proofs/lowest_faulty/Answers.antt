@@ -1,17 +1,39 @@
--- `lowest_faulty` meets its contract: every node before i is in order, and the loop stops at the first that is not.
--- Assumes nothing.
-use mathlib.Core.Path.{sym, ◌∙◌}
-use native.Mathlib.Omega.{arith}
+-- `lowest_faulty` meets its contract: the first node that is not in order is the lowest. Assumes nothing.
+use Rattle.std.proofs.Common.{◌≡◌, ℕ, ◌<◌, ◌≤◌, Bool, true, false, arith, rules, tests}
+use Rattle.std.specs.Prelude.{Some, None, MatchOption}
+use Rattle.std.proofs.lemmas.Iterator.{first_from_Range}
+use mathlib.Core.Path.{sym}
 use Rattle.number.specs.declared.Refusal.TheVariants.{FaultyNode}
-use Rattle.card_spec.specs.Nodes.{count_of}
 use Rattle.card_spec.specs.Findings.{orderly}
-use Rattle.card_spec.proofs.Lowest.{found_here}
+use Rattle.card_spec.proofs.Lowest.{first_is_lowest}
 use Rattle.card_faults.proofs.lowest_faulty.Goals as goal
+use Rattle.card_faults.proofs.lowest_faulty.Goals.{After-find-first}
 
-pub returns-then-not-is_orderly : goal.returns-then-not-is_orderly
-returns-then-not-is_orderly c =
-    let s = c.args in
-    let at = c.loop-i in
-    sym
-    (found_here (orderly s.counts.lifelines s.counts.messages s.nodes.now) FaultyNode at.i (count_of s.nodes.now)
-    (omega arith) at.invariant (sym c.is_orderly.ensures ∙ c.if-not-is_orderly.true))
+abbrev passes : (c : After-find-first) → ℕ → Bool
+passes c = orderly c.args.counts.lifelines c.args.counts.messages c.args.nodes.now
+
+-- What the search for the first gives.
+searched : (c : After-find-first)
+    → MatchOption c.find-first.result ((k : ℕ) → 0 ≤ k → k < c.count.result → passes c k ≡ true)
+    (λ i. (0 ≤ i) × (i < c.count.result) × (passes c i ≡ false) × ((k : ℕ) → 0 ≤ k → k < i → passes c k ≡ true))
+searched c =
+    first_from_Range (record { start = 0; end = c.count.result }) _ _ c.find-first.result
+    (λ i. passes c i ≡ false) (λ i. passes c i ≡ true) c.find-first.ensures.ran
+    (λ x q k. search (rules, tests)) (λ x q k. (search (rules, tests), search (rules, tests)))
+
+pub overflow_cast-result : goal.overflow_cast-result
+overflow_cast-result c =
+    let found = rw c.in-Some.is at (searched (goal.at.overflow_cast-result c).After-find-first) in
+    omega (arith, found.1, c.count.ensures, c.requires)
+
+pub returns-in-Some : goal.returns-in-Some
+returns-in-Some c =
+    let at = (goal.at.returns-in-Some c).After-find-first in
+    let found = rw c.in-Some.is at (searched at) in
+    rw c.count.ensures at (sym (first_is_lowest (passes at) FaultyNode c.count.result (Some c.in-Some.i) found))
+
+pub returns-in-None : goal.returns-in-None
+returns-in-None c =
+    let at = (goal.at.returns-in-None c).After-find-first in
+    let found = rw c.in-None.is at (searched at) in
+    rw c.count.ensures at (sym (first_is_lowest (passes at) FaultyNode c.count.result None found))

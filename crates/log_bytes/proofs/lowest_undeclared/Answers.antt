@@ -1,27 +1,41 @@
--- `lowest_undeclared` meets its contract: every action before i is declared; the loop stops at the first that is not.
--- Assumes nothing.
-use mathlib.Core.Path.{◌≡◌, sym, ap, ◌∙◌}
-use native.Mathlib.Omega.{arith}
+-- `lowest_undeclared` meets its contract: the first action that is not declared is the lowest. Assumes nothing.
+use Rattle.std.proofs.Common.{◌≡◌, ℕ, ◌<◌, ◌≤◌, Bool, true, false, arith, rules, tests}
+use Rattle.std.specs.Prelude.{Some, None, MatchOption}
+use Rattle.std.proofs.lemmas.Iterator.{first_from_Range}
+use mathlib.Core.Path.{sym}
 use Rattle.number.specs.declared.Refusal.TheVariants.{UndeclaredAction}
-use Rattle.card_spec.proofs.Lowest.{found_here}
+use Rattle.card_spec.proofs.Lowest.{first_is_lowest}
 use Rattle.log_spec.specs.Bytes.{actions_of}
-use Rattle.log_spec.specs.Refusing.{declared, declared_at}
+use Rattle.log_spec.specs.Refusing.{declared_at}
 use Rattle.log_bytes.proofs.lowest_undeclared.Goals as goal
-use Rattle.log_bytes.proofs.lowest_undeclared.Goals.{After-is_declared}
+use Rattle.log_bytes.proofs.lowest_undeclared.Goals.{After-find-first}
 
--- What the test of action i answered.
-asked : (c : After-is_declared)
-    → c.is_declared.result
-    ≡ declared_at c.args.counts.lifelines c.args.counts.messages c.args.log.now c.loop-i.i
-asked c =
-    let s = c.args.counts in
-    c.is_declared.ensures ∙ ap (declared s.lifelines s.messages) c.action_at.ensures
+-- Whether action i is declared.
+abbrev passes : (c : After-find-first) → ℕ → Bool
+passes c = declared_at c.args.counts.lifelines c.args.counts.messages c.args.log.now
 
-pub returns-then-not-is_declared : goal.returns-then-not-is_declared
-returns-then-not-is_declared c =
-    let s = c.args.counts in
-    let log = c.args.log.now in
-    sym
-    (found_here (declared_at s.lifelines s.messages log) UndeclaredAction c.loop-i.i (actions_of log) (omega arith)
-    c.loop-i.invariant
-    (sym (asked (goal.at.returns-then-not-is_declared c).After-is_declared) ∙ c.if-not-is_declared.true))
+-- What the search for the first that is not gives.
+searched : (c : After-find-first)
+    → MatchOption c.find-first.result ((k : ℕ) → 0 ≤ k → k < actions_of c.args.log.now → passes c k ≡ true)
+    (λ i. (0 ≤ i) × (i < actions_of c.args.log.now) × (passes c i ≡ false) × ((k : ℕ) → 0 ≤ k → k < i → passes c k ≡ true))
+searched c =
+    first_from_Range (record { start = 0; end = actions_of c.args.log.now }) _ _ c.find-first.result
+    (λ i. passes c i ≡ false) (λ i. passes c i ≡ true) c.find-first.ensures.ran
+    (λ x q k. search (rules, tests)) (λ x q k. (search (rules, tests), search (rules, tests)))
+
+pub overflow_cast-result : goal.overflow_cast-result
+overflow_cast-result c =
+    let found = rw c.in-Some.is at (searched (goal.at.overflow_cast-result c).After-find-first) in
+    omega (arith, found.1, c.requires)
+
+pub returns-in-Some : goal.returns-in-Some
+returns-in-Some c =
+    let at = (goal.at.returns-in-Some c).After-find-first in
+    let found = rw c.in-Some.is at (searched at) in
+    sym (first_is_lowest (passes at) UndeclaredAction (actions_of c.args.log.now) (Some c.in-Some.i) found)
+
+pub returns-in-None : goal.returns-in-None
+returns-in-None c =
+    let at = (goal.at.returns-in-None c).After-find-first in
+    let found = rw c.in-None.is at (searched at) in
+    sym (first_is_lowest (passes at) UndeclaredAction (actions_of c.args.log.now) None found)
