@@ -1,5 +1,4 @@
--- The lowest node that does not pass a test, and how a loop finds it: all nodes so far pass, and the loop has found
--- the first that does not.
+-- The lowest node that does not pass a test is the first that a search from node 0 on finds.
 -- All by induction on how many nodes were looked at.
 -- Assumes nothing.
 use Prim.Native.Nat.{ℕ, zero, suc, ◌<◌, ◌≤◌}
@@ -22,6 +21,12 @@ pub or_fine→ : (f g : Result Unit Refusal) → or_else f g ≡ Ok tt → (f �
 or_fine→ (Ok u) g h = (refl, h)
 or_fine→ (Err refusal) g h = (h, cc)
 
+-- What a search finds among the first n: the first that does not pass, or that there is none.
+abbrev pub First : (ℕ → Bool) → ℕ → Option ℕ → Type 0
+First passes n first =
+    MatchOption first ((k : ℕ) → 0 ≤ k → k < n → passes k ≡ true)
+    (λ i. (0 ≤ i) × (i < n) × (passes i ≡ false) × ((k : ℕ) → 0 ≤ k → k < i → passes k ≡ true))
+
 module _ (passes : ℕ → Bool) (refusal : ℕ → Refusal) where
   -- All nodes so far pass, and this one does not.
   pub found_here :
@@ -41,16 +46,6 @@ module _ (passes : ℕ → Bool) (refusal : ℕ → Refusal) where
   none→fine zero none = refl
   none→fine (suc n) none = rw (none→fine n (λ i h. none i (omega arith)), none n (omega arith))
 
-  -- The first of n that does not pass is the lowest.
-  pub first_is_lowest :
-      (n : ℕ) (first : Option ℕ)
-      → MatchOption first ((k : ℕ) → 0 ≤ k → k < n → passes k ≡ true)
-      (λ i. (0 ≤ i) × (i < n) × (passes i ≡ false) × ((k : ℕ) → 0 ≤ k → k < i → passes k ≡ true))
-      → lowest passes refusal n ≡ unwrap_or (option_map (λ i. Err (refusal i)) first) (Ok tt)
-  first_is_lowest n None all = none→fine n (λ i h. all i (omega arith) h)
-  first_is_lowest n (Some i) (low, inside, fails, before) =
-      found_here i n inside (none→fine i (λ k h. before k (omega arith) h)) fails
-
   -- and nothing is found only then.
   pub fine→none : (n : ℕ) → lowest passes refusal n ≡ Ok tt → (i : ℕ) → i < n → passes i ≡ true
   fine→none zero h i l = absurd (omega arith)
@@ -61,3 +56,11 @@ module _ (passes : ℕ → Bool) (refusal : ℕ → Refusal) where
       last : Dec (i ≡ n) → rule (refusal n) (passes n) ≡ Ok tt → (i < n → passes i ≡ true) → passes i ≡ true
       last (yes same) here before = rw same (holds→ (refusal n) (passes n) here)
       last (no other) here before = before (omega arith)
+
+  -- So what a search finds is the lowest.
+  pub first_is_lowest :
+      (n : ℕ) (first : Option ℕ) → First passes n first
+      → lowest passes refusal n ≡ unwrap_or (option_map (λ i. Err (refusal i)) first) (Ok tt)
+  first_is_lowest n None all = none→fine n (λ i h. all i (omega arith) h)
+  first_is_lowest n (Some i) (low, inside, fails, before) =
+      found_here i n inside (none→fine i (λ k h. before k (omega arith) h)) fails

@@ -1,21 +1,20 @@
 -- `lowest_faulty` meets its contract: the first node that is not in order is the lowest. Assumes nothing.
-use Rattle.std.proofs.Common.{◌≡◌, ℕ, ◌<◌, ◌≤◌, Bool, true, false, arith, rules, tests}
-use Rattle.std.specs.Prelude.{Some, None, MatchOption}
+use Rattle.std.proofs.Common.{◌≡◌, ℕ, Bool, true, false, arith, rules, tests}
+use Rattle.std.specs.Prelude.{Some, None}
 use Rattle.std.proofs.lemmas.Iterator.{first_from_Range}
 use mathlib.Core.Path.{sym}
 use Rattle.number.specs.declared.Refusal.TheVariants.{FaultyNode}
 use Rattle.card_spec.specs.Findings.{orderly}
-use Rattle.card_spec.proofs.Lowest.{first_is_lowest}
+use Rattle.card_spec.proofs.Lowest.{First, first_is_lowest}
 use Rattle.card_faults.proofs.lowest_faulty.Goals as goal
 use Rattle.card_faults.proofs.lowest_faulty.Goals.{After-find-first}
 
+-- Whether node i is in order.
 abbrev passes : (c : After-find-first) → ℕ → Bool
 passes c = orderly c.args.counts.lifelines c.args.counts.messages c.args.nodes.now
 
--- What the search for the first gives.
-searched : (c : After-find-first)
-    → MatchOption c.find-first.result ((k : ℕ) → 0 ≤ k → k < c.count.result → passes c k ≡ true)
-    (λ i. (0 ≤ i) × (i < c.count.result) × (passes c i ≡ false) × ((k : ℕ) → 0 ≤ k → k < i → passes c k ≡ true))
+-- What the search for the first that is not gives.
+searched : (c : After-find-first) → First (passes c) c.count.result c.find-first.result
 searched c =
     first_from_Range (record { start = 0; end = c.count.result }) _ _ c.find-first.result
     (λ i. passes c i ≡ false) (λ i. passes c i ≡ true) c.find-first.ensures.ran

@@ -1,10 +1,10 @@
 -- `lowest_undeclared` meets its contract: the first action that is not declared is the lowest. Assumes nothing.
-use Rattle.std.proofs.Common.{◌≡◌, ℕ, ◌<◌, ◌≤◌, Bool, true, false, arith, rules, tests}
-use Rattle.std.specs.Prelude.{Some, None, MatchOption}
+use Rattle.std.proofs.Common.{◌≡◌, ℕ, Bool, true, false, arith, rules, tests}
+use Rattle.std.specs.Prelude.{Some, None}
 use Rattle.std.proofs.lemmas.Iterator.{first_from_Range}
 use mathlib.Core.Path.{sym}
 use Rattle.number.specs.declared.Refusal.TheVariants.{UndeclaredAction}
-use Rattle.card_spec.proofs.Lowest.{first_is_lowest}
+use Rattle.card_spec.proofs.Lowest.{First, first_is_lowest}
 use Rattle.log_spec.specs.Bytes.{actions_of}
 use Rattle.log_spec.specs.Refusing.{declared_at}
 use Rattle.log_bytes.proofs.lowest_undeclared.Goals as goal
@@ -15,9 +15,7 @@ abbrev passes : (c : After-find-first) → ℕ → Bool
 passes c = declared_at c.args.counts.lifelines c.args.counts.messages c.args.log.now
 
 -- What the search for the first that is not gives.
-searched : (c : After-find-first)
-    → MatchOption c.find-first.result ((k : ℕ) → 0 ≤ k → k < actions_of c.args.log.now → passes c k ≡ true)
-    (λ i. (0 ≤ i) × (i < actions_of c.args.log.now) × (passes c i ≡ false) × ((k : ℕ) → 0 ≤ k → k < i → passes c k ≡ true))
+searched : (c : After-find-first) → First (passes c) (actions_of c.args.log.now) c.find-first.result
 searched c =
     first_from_Range (record { start = 0; end = actions_of c.args.log.now }) _ _ c.find-first.result
     (λ i. passes c i ≡ false) (λ i. passes c i ≡ true) c.find-first.ensures.ran
