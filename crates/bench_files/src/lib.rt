@@ -80,15 +80,17 @@ fn judge_contents(card: Option<&[u8]>, log: Option<&[u8]>, room: &mut [u32]) -> 
 
 // Writes a line. Its contract asks that these are the bytes of the line, since no contract can say what was written.
 // A write that fails is not told of: whoever reads the line finds it missing.
-fn write<R: Print>(rt: &R, line: &str, told: Option<Judged>)
+fn write<R: Print>(rt: &R, line: &[u8], told: Option<Judged>)
     requires { line.now ≡ printed (line_of told) }
 {
-    let _ = rt.write_all(line.as_bytes());
+    let _ = rt.write_all(line);
 }
 
 fn tell<R: Print>(rt: &R, told: Option<Judged>) {
-    let line = bench_line::spell(told);
-    write(rt, line.as_str(), told);
+    let text = bench_line::spell(told);
+    let bytes = text.bytes;
+    let end = text.end;
+    write(rt, &bytes[0..end], told);
 }
 
 // Judges the files of the working directory, writes the line, and returns what it tells.

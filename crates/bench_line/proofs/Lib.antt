@@ -1,2 +1,2 @@
--- How long the pieces of a line are.
-pub mod Pieces
+-- Laws of adding bytes to a text.
+pub mod Adding

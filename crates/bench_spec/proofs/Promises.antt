@@ -22,7 +22,7 @@ use Rattle.judge_spec.specs.Table.Refused.{by_the_card, seven}
 use Rattle.judge_spec.proofs.Example.{printed_log, the_printed_log_is_accepted}
 use Rattle.judge_spec.proofs.Promises.{refused_exactly_as_the_table_tells}
 use Rattle.bench_spec.specs.Reading.{Moved, after_read, OnlyIfOpen, AllRead}
-use Rattle.bench_spec.specs.Telling.{allowance, room, filled, told_of}
+use Rattle.bench_spec.specs.Telling.{allowance, room, filled, told_of, told_from}
 use Rattle.bench_spec.specs.Spelling.{bytes, decimal, word_of, line_of, printed}
 use Rattle.bench_spec.proofs.Words as words
 
@@ -123,7 +123,7 @@ a_missing_file_is_printed = refl
 pub it_prints_exactly :
     (behind more : List ℕ)
     → printed
-    (line_of (told_of (filled (card.printed ++ behind) (Some 18)) (filled (printed_log ++ more) (Some 4)) room))
+    (line_of (told_from (Some 18) (card.printed ++ behind) (Some 4) (printed_log ++ more) room))
     ≡ bytes "accepted 2 2 6" ++ (10 ∷ [])
 unfolding decimal
 it_prints_exactly behind more = ap (λ j. printed (line_of (Some j))) the_printed_log_is_accepted

@@ -29,6 +29,10 @@ told_of (Some card) (Some log) long = Some (judgment card log allowance long)
 told_of (Some card) None long = None
 told_of None content long = None
 
+-- The same, of how reading the two files ended, and of the bytes that they were read into.
+abbrev pub told_from : Option ℕ → List ℕ → Option ℕ → List ℕ → ℕ → Option Judged
+told_from chart card log actions long = told_of (filled card chart) (filled actions log) long
+
 -- The room afterwards: as the judgment leaves it, or as found.
 abbrev pub room_told : Option (List ℕ) → Option (List ℕ) → List ℕ → List ℕ
 room_told (Some card) (Some log) found = room_after card log found
@@ -47,4 +51,4 @@ pub record Reports (told : Option Judged) : Type 0 where
   pub log_long : length log_bytes ≡ 257
   pub chart_within : ReadInto card_bytes chart
   pub log_within : ReadInto log_bytes log
-  pub tells : told ≡ told_of (filled card_bytes chart) (filled log_bytes log) room
+  pub tells : told ≡ told_from chart card_bytes log log_bytes room

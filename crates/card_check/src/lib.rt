@@ -4,16 +4,30 @@
 #![tactic(auto)]
 
 ghost use Rattle.std.specs.Prelude.{◌≡◌, MatchResult};
+ghost use Rattle.std.specs.Result.{result_map_both};
 ghost use Rattle.card_spec.specs.Parts.{nodes_of};
 ghost use Rattle.card_spec.specs.Figures.{depth_of};
-ghost use Rattle.card_spec.specs.Checking.{checking, findings, first};
+ghost use Rattle.card_spec.specs.Checking.{checking, findings, first, refused};
 ghost use Rattle.card_spec.specs.Note.{note_of};
 
 use card_spec::{Checked, SoundCard};
 use node::Node;
-use number::Refusal;
+use number_spec::Refusal;
 
 mod rules;
+
+// The answer to a card that is refused: the number and the place of what refuses it, and no figures.
+fn refused(refusal: Refusal) -> Checked
+    ensures { result ≡ refused refusal }
+{
+    Checked {
+        number: number::number_of(refusal),
+        place: number::place_of(refusal),
+        nodes: 0,
+        depth: 0,
+        lifelines: 0,
+    }
+}
 
 // The depth of a sound card, or what refuses any other. The rules stand in the order of 01's table, and the first
 // broken rule refuses the card.
@@ -29,15 +43,17 @@ fn measure(card: &[u8]) -> Result<u32, Refusal>
     card_faults::lowest_faulty(nodes, card_parts::counts(card))?;
     card_tree::lowest_misused(nodes)?;
     let depth = card_figures::depth(nodes);
-    Refusal::TooDeep.unless(depth <= Node::DEPTH)?;
+    number::rule(Refusal::TooDeep, depth <= Node::DEPTH)?;
     Ok(depth)
 }
 
 // The caller's own card as a sound one, or what refuses it.
 pub fn pass(card: &[u8]) -> Result<SoundCard<'_>, Refusal>
-    ensures { MatchResult result
+    ensures cases { MatchResult result
         (λ sound. (sound.bytes ≡ card.entry) × (first (findings card.now) ≡ Ok tt))
         (λ refusal. first (findings card.now) ≡ Err refusal) }
+    ensures equation { result_map_both (λ sound. sound.bytes) (λ refusal. refusal) result
+        ≡ result_map_both (λ u. card.entry) (λ refusal. refusal) (first (findings card.now)) }
 {
     measure(card)?;
     Ok(SoundCard { bytes: card })
@@ -58,7 +74,7 @@ pub fn check(card: &[u8]) -> Checked
                 lifelines: card_figures::acting(nodes),
             }
         }
-        Err(refusal) => Checked::from(refusal),
+        Err(refusal) => refused(refusal),
     }
 }
 

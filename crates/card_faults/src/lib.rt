@@ -8,7 +8,7 @@ ghost use Rattle.card_spec.specs.Findings.{in_order, orderly, faulty};
 
 use card_spec::Counts;
 use node::Node;
-use number::Refusal;
+use number_spec::Refusal;
 
 // Whether node i is in order: `c` is its fourth byte.
 fn is_in_order(n: Node, c: u32, i: u32, counts: Counts) -> bool

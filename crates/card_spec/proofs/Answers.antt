@@ -8,10 +8,10 @@ use mathlib.Core.Path.{◌≡◌, refl}
 use lib.ListN.{take}
 use borrow.Author.Tests.{le-leb, lt-leb, ne_eqb}
 use Rattle.std.specs.Prelude.{Result, Ok, Err}
-use Rattle.number.specs.declared.Refusal.{Refusal}
-use Rattle.number.specs.Refusals.{number_of}
-use Rattle.number.proofs.Real.{refusal_is_not_zero}
-use Rattle.number.specs.declared.Refusal.TheVariants.{CardFrame, BackDistance, Counts, TooDeep}
+use Rattle.number_spec.specs.declared.Refusal.{Refusal}
+use Rattle.number_spec.specs.Refusals.{number_of}
+use Rattle.number_spec.proofs.Real.{refusal_is_not_zero}
+use Rattle.number_spec.specs.declared.Refusal.TheVariants.{CardFrame, BackDistance, Counts, TooDeep}
 use Rattle.card_spec.specs.Parts.{first_at, lifelines_of, messages_of, nodes_of}
 use Rattle.card_spec.specs.Figures.{depth_of}
 use Rattle.card_spec.specs.Findings.{framed, back_in_rule, counts_in_range, faulty, misused}

@@ -7,8 +7,8 @@ use mathlib.Core.Path.{◌≡◌, refl}
 use native.Mathlib.Decide.{ℕ_discrete}
 use native.Mathlib.Omega.{arith}
 use Rattle.std.specs.Prelude.{Result, Ok, Err, Option, Some, None, MatchOption, option_map, unwrap_or}
-use Rattle.number.specs.declared.Refusal.{Refusal}
-use Rattle.number.specs.Refusals.{rule}
+use Rattle.number_spec.specs.declared.Refusal.{Refusal}
+use Rattle.number_spec.specs.Refusals.{rule}
 use Rattle.card_spec.specs.Findings.{or_else, lowest}
 
 -- A rule does not refuse only if it holds.

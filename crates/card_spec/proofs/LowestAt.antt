@@ -7,7 +7,7 @@ use mathlib.Core.Path.{◌≡◌, refl}
 use native.Mathlib.Decide.{ℕ_discrete}
 use native.Mathlib.Omega.{arith}
 use Rattle.std.specs.Prelude.{Ok, Err}
-use Rattle.number.specs.declared.Refusal.{Refusal}
+use Rattle.number_spec.specs.declared.Refusal.{Refusal}
 use Rattle.card_spec.specs.Findings.{lowest}
 use Rattle.card_spec.specs.Table.{Lowest}
 use Rattle.card_spec.proofs.Decided.{Decided, if_not, if_so}

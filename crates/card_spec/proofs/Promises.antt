@@ -14,8 +14,8 @@ use borrow.Author.Tests.{eq-eqb, ne_eqb}
 use Rattle.chart_spec.specs.Chart.{size, depth}
 use Rattle.card_spec.specs.declared.Checked.{Checked}
 use Rattle.std.specs.Prelude.{Result, Ok, Err}
-use Rattle.number.specs.declared.Refusal.{Refusal}
-use Rattle.number.specs.Refusals.{number_of, place_of}
+use Rattle.number_spec.specs.declared.Refusal.{Refusal}
+use Rattle.number_spec.specs.Refusals.{number_of, place_of}
 use Rattle.card_spec.specs.Parts.{lifelines_of, messages_of, nodes_of}
 use Rattle.card_spec.specs.Nodes.{card_chart}
 use Rattle.card_spec.specs.Figures.{tally}

@@ -15,7 +15,7 @@ use Rattle.node_spec.specs.Kind.{Kind, kind_of}
 use Rattle.node_spec.specs.Kind.Kind.{nothing, action, pairs, loops, unknown}
 use Rattle.node_spec.specs.Row.{children_as, Below}
 use Rattle.std.specs.Prelude.{Ok}
-use Rattle.number.specs.declared.Refusal.TheVariants.{FaultyNode}
+use Rattle.number_spec.specs.declared.Refusal.TheVariants.{FaultyNode}
 use Rattle.card_spec.specs.Parts.{trailer_at, first_at, back_of, lifelines_of, messages_of, nodes_of}
 use Rattle.card_spec.specs.Nodes.{count_of, node_at, spare_at}
 use Rattle.card_spec.specs.Figures.{acts_as}
@@ -108,6 +108,11 @@ faultless card rule few fine =
                 (order i h) acts,
           );
     }
+
+pub has_few_nodes : (card : List ℕ) → back_in_rule card ≡ true → count_of (nodes_of card) ≤ 255
+has_few_nodes card h =
+    let rule = back→ card h in
+    omega (arith, length_nodes card rule, rule.few)
 
 pub has_few_lifelines : (card : List ℕ) → counts_in_range card ≡ true → lifelines_of card ≤ 16
 has_few_lifelines card h =

@@ -15,7 +15,7 @@ use Rattle.node_spec.specs.Kind.{kind_of}
 use Rattle.node_spec.specs.Row.{uses}
 use Rattle.card_spec.specs.declared.Checked.{Checked}
 use Rattle.std.specs.Prelude.{Ok}
-use Rattle.number.specs.declared.Refusal.TheVariants.{FaultyNode, MisusedNode}
+use Rattle.number_spec.specs.declared.Refusal.TheVariants.{FaultyNode, MisusedNode}
 use Rattle.card_spec.specs.Parts.{lifelines_of, messages_of, nodes_of}
 use Rattle.card_spec.specs.Nodes.{count_of, node_at, spare_at, card_row}
 use Rattle.card_spec.specs.Figures.{depth_of}

@@ -1,9 +1,9 @@
 -- The answer to a card.
 -- Assumes nothing.
 use Rattle.std.specs.Prelude.{ℕ, List, [], ◌∷◌, leb, Result, Ok, Err}
-use Rattle.number.specs.declared.Refusal.{Refusal}
-use Rattle.number.specs.declared.Refusal.TheVariants.{CardFrame, BackDistance, Counts, TooDeep}
-use Rattle.number.specs.Refusals.{number_of, place_of, rule}
+use Rattle.number_spec.specs.declared.Refusal.{Refusal}
+use Rattle.number_spec.specs.declared.Refusal.TheVariants.{CardFrame, BackDistance, Counts, TooDeep}
+use Rattle.number_spec.specs.Refusals.{number_of, place_of, rule}
 use Rattle.card_spec.specs.declared.Checked.{Checked}
 use Rattle.card_spec.specs.Parts.{lifelines_of, messages_of, nodes_of}
 use Rattle.card_spec.specs.Nodes.{count_of}

@@ -2,9 +2,9 @@
 -- adds 6 and puts them in their order.
 -- Assumes nothing.
 use Rattle.std.specs.Prelude.{ℕ, zero, suc, ◌-◌, ◌%◌, Bool, false, ◌&&◌, List, eqb, ltb, leb, length, Result, Ok, Err}
-use Rattle.number.specs.declared.Refusal.{Refusal}
-use Rattle.number.specs.declared.Refusal.TheVariants.{FaultyNode, MisusedNode}
-use Rattle.number.specs.Refusals.{rule}
+use Rattle.number_spec.specs.declared.Refusal.{Refusal}
+use Rattle.number_spec.specs.declared.Refusal.TheVariants.{FaultyNode, MisusedNode}
+use Rattle.number_spec.specs.Refusals.{rule}
 use Rattle.node.specs.declared.Node.{Node}
 use Rattle.node_spec.specs.Kind.{Kind, kind_of}
 use Rattle.node_spec.specs.Kind.Kind.{nothing, action, pairs, loops, unknown}

@@ -2,11 +2,7 @@
 // promised of cards; the code is in the other crates `card_..`.
 #![tactic(auto)]
 
-ghost use Rattle.std.specs.Prelude.{◌≡◌};
-ghost use Rattle.card_spec.specs.Checking.{refused};
 ghost use Rattle.card_spec.specs.Table.{Sound};
-
-use number::Refusal;
 
 // The answer to a card: number 0, place 0 and the figures of a sound one; or the number and place of a refusal, and
 // no figures. One struct of numbers, and no `Result`: C reads it.
@@ -18,21 +14,6 @@ pub struct Checked {
     pub nodes: u32,
     pub depth: u32,
     pub lifelines: u32,
-}
-
-// One `From` for each of C's three structs: they have other fields.
-impl From<Refusal> for Checked {
-    ghost from_gives = { λ refusal result. result ≡ refused refusal };
-
-    fn from(refusal: Refusal) -> Checked {
-        Checked {
-            number: refusal.number(),
-            place: refusal.place(),
-            nodes: 0,
-            depth: 0,
-            lifelines: 0,
-        }
-    }
 }
 
 // How many lifelines and messages a card declares.

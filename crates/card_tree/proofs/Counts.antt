@@ -14,7 +14,7 @@ use lib.ListN.{length, get_or, take, replicate, length-set, length-take, get_or-
 use lib.Seq.{get_or-take, get_or-set_same, get_or-set_other, set_out}
 use borrow.Author.Tests.{eq-eqb, ne_eqb}
 use Rattle.std.specs.Prelude.{Ok, Err}
-use Rattle.number.specs.declared.Refusal.TheVariants.{MisusedNode}
+use Rattle.number_spec.specs.declared.Refusal.TheVariants.{MisusedNode}
 use Rattle.node.specs.declared.Node.{Node}
 use Rattle.node_spec.specs.Kind.{Kind, kind_of}
 use Rattle.node_spec.specs.Kind.Kind.{nothing, action, pairs, loops, unknown}

@@ -10,7 +10,7 @@ ghost use Rattle.card_spec.specs.Faultless.{Faultless};
 ghost use Rattle.card_tree.specs.Counting.{one_more, one_more_each};
 
 use node::Node;
-use number::Refusal;
+use number_spec::Refusal;
 
 fn count_child(counts: &mut [u16; Node::NODES], child: u32)
     requires { (child < 255) × (get_or counts.old child 0 < 65535) }

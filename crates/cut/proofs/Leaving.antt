@@ -13,8 +13,8 @@ use Rattle.chart_spec.specs.Executing.{evades, prune, chart_of}
 use Rattle.chart_spec.proofs.Shrinking.{pruned_costs_at_most_the_chart}
 use Rattle.card_spec.specs.Parts.{lifelines_of, messages_of}
 use Rattle.card_spec.specs.Nodes.{card_chart}
-use Rattle.number.specs.declared.Refusal.TheVariants.{NoLogLeft}
-use Rattle.number.specs.Refusals.{rule}
+use Rattle.number_spec.specs.declared.Refusal.TheVariants.{NoLogLeft}
+use Rattle.number_spec.specs.Refusals.{rule}
 use Rattle.card_spec.specs.Table.{Sound}
 use Rattle.card_spec.proofs.Telling.{sound→faultless}
 use Rattle.room_spec.specs.declared.Root.{Root}

@@ -2,8 +2,8 @@
 -- returned.
 -- Assumes nothing.
 use Rattle.std.specs.Prelude.{Option, Some, None, Result, Ok, Err}
-use Rattle.number.specs.declared.Refusal.{Refusal}
-use Rattle.number.specs.declared.Refusal.TheVariants.{NoLogLeft}
+use Rattle.number_spec.specs.declared.Refusal.{Refusal}
+use Rattle.number_spec.specs.declared.Refusal.TheVariants.{NoLogLeft}
 use Rattle.room_spec.specs.declared.Root.{Root}
 
 -- "12 | cut: no log of the chart avoids the lifeline | 0" (01, Verdicts and numbers given).

@@ -4,16 +4,28 @@
 
 ghost use Rattle.std.specs.Prelude.{◌≡◌, ◌<◌, length, MatchResult};
 ghost use Rattle.card_spec.specs.Parts.{lifelines_of};
-ghost use Rattle.cut_spec.specs.Cutting.{asked, cutting, out_after};
+ghost use Rattle.number_spec.specs.Refusals.{number_of, place_of};
+ghost use Rattle.cut_spec.specs.Cutting.{asked, refused_at, cutting, out_after};
 
 use card_spec::SoundCard;
 use cut_spec::CutAnswer;
 use node::Node;
-use number::Refusal;
+use number_spec::Refusal;
 
 // The most room that a cut takes: the places of the card's chart, and as many again for what pruning makes. (An array
 // and no vector: the library uses no heap.)
 const ROOM: usize = 2 * Node::NODES;
+
+// The answer to a cut that is refused: the number and the place of what refuses it, and no length.
+fn refused(refusal: Refusal) -> CutAnswer
+    ensures { result ≡ refused_at (number_of refusal) (place_of refusal) }
+{
+    CutAnswer {
+        number: number::number_of(refusal),
+        place: number::place_of(refusal),
+        length: 0,
+    }
+}
 
 // The cut of a sound card: its chart is laid and pruned in a room of the cut's own.
 fn cut_in(card: SoundCard, lifeline: u32, room: &mut [u32], out: &mut [u8]) -> CutAnswer
@@ -23,11 +35,11 @@ fn cut_in(card: SoundCard, lifeline: u32, room: &mut [u32], out: &mut [u8]) -> C
 {
     let root = room_lay::lay_whole(card.bytes, room);
     let Some(part) = room_prune::prune(room, root, lifeline) else {
-        return CutAnswer::from(Refusal::NoLogLeft);
+        return refused(Refusal::NoLogLeft);
     };
     let length = write_card::card_bytes(room, part.place);
     if out.len() < length {
-        return CutAnswer::from(Refusal::OutputTooShort);
+        return refused(Refusal::OutputTooShort);
     }
     let counts = card_parts::counts(card.bytes);
     write_card::write_card(room, part.place, counts, out);
@@ -45,7 +57,10 @@ fn check(card: &[u8], lifeline: u32) -> Result<SoundCard<'_>, Refusal>
         (λ refused. asked card.now lifeline ≡ Err refused) }
 {
     let sound = card_check::pass(card)?;
-    Refusal::UndeclaredLifeline.unless(lifeline < card_parts::counts(card).lifelines)?;
+    number::rule(
+        Refusal::UndeclaredLifeline,
+        lifeline < card_parts::counts(card).lifelines,
+    )?;
     Ok(sound)
 }
 
@@ -60,6 +75,6 @@ pub fn cut(card: &[u8], lifeline: u32, out: &mut [u8]) -> CutAnswer
             let mut room = [0u32; ROOM];
             cut_in(sound, lifeline, &mut room, out)
         }
-        Err(refusal) => CutAnswer::from(refusal),
+        Err(refusal) => refused(refusal),
     }
 }

@@ -12,7 +12,7 @@ use lib.Seq.{take-append_seam, drop-append_seam}
 use borrow.Author.Tests.{eq-eqb}
 use Rattle.chart_spec.proofs.Shrinking.{pruned_no_larger}
 use Rattle.std.specs.Prelude.{Result, Ok, Err}
-use Rattle.number.specs.declared.Refusal.{Refusal}
+use Rattle.number_spec.specs.declared.Refusal.{Refusal}
 use Rattle.card_spec.specs.Parts.{lifelines_of, messages_of, first_at, nodes_of}
 use Rattle.card_spec.specs.Note.{note_of}
 use Rattle.card_spec.specs.Checking.{checking}

@@ -11,9 +11,9 @@ use lib.ListN.{length, drop}
 use borrow.Author.Tests.{lt-ltb, le-ltb, lt-leb, le-leb}
 use Rattle.chart_spec.specs.Executing.{evades}
 use Rattle.std.specs.Prelude.{Result, Ok, Err}
-use Rattle.number.specs.declared.Refusal.{Refusal}
-use Rattle.number.specs.declared.Refusal.TheVariants.{UndeclaredLifeline, NoLogLeft}
-use Rattle.number.specs.Refusals.{number_of, place_of, rule}
+use Rattle.number_spec.specs.declared.Refusal.{Refusal}
+use Rattle.number_spec.specs.declared.Refusal.TheVariants.{UndeclaredLifeline, NoLogLeft}
+use Rattle.number_spec.specs.Refusals.{number_of, place_of, rule}
 use Rattle.card_spec.specs.Parts.{lifelines_of, messages_of}
 use Rattle.card_spec.specs.Nodes.{card_chart}
 use Rattle.card_spec.specs.Findings.{or_else}

@@ -16,8 +16,8 @@ use Rattle.chart_spec.specs.Executing.{evades}
 use Rattle.chart_spec.proofs.Agreement.{evades_iff_some_published_log_avoids}
 use Rattle.card_spec.specs.Parts.{lifelines_of}
 use Rattle.card_spec.specs.Nodes.{card_chart}
-use Rattle.number.specs.declared.Refusal.TheVariants.{NoLogLeft}
-use Rattle.number.specs.Refusals.{rule}
+use Rattle.number_spec.specs.declared.Refusal.TheVariants.{NoLogLeft}
+use Rattle.number_spec.specs.Refusals.{rule}
 use Rattle.card_spec.specs.Checking.{checking}
 use Rattle.card_spec.proofs.Answers.{refused_so_found}
 use Rattle.card_spec.specs.Table.{Sound}

@@ -3,9 +3,9 @@
 use Rattle.std.specs.Prelude.{ℕ, List, [], ◌∷◌, ◌++◌, ◌≡◌, ltb, leb, length, drop, Result, Ok, Err}
 use Rattle.chart_spec.specs.Chart.{Chart}
 use Rattle.chart_spec.specs.Executing.{evades, prune, chart_of}
-use Rattle.number.specs.declared.Refusal.{Refusal}
-use Rattle.number.specs.declared.Refusal.TheVariants.{UndeclaredLifeline, NoLogLeft, OutputTooShort}
-use Rattle.number.specs.Refusals.{number_of, place_of, rule}
+use Rattle.number_spec.specs.declared.Refusal.{Refusal}
+use Rattle.number_spec.specs.declared.Refusal.TheVariants.{UndeclaredLifeline, NoLogLeft, OutputTooShort}
+use Rattle.number_spec.specs.Refusals.{number_of, place_of, rule}
 use Rattle.card_spec.specs.Parts.{lifelines_of, messages_of}
 use Rattle.card_spec.specs.Nodes.{card_chart}
 use Rattle.card_spec.specs.Findings.{or_else}

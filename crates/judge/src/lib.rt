@@ -11,7 +11,7 @@ ghost use Rattle.judge_spec.specs.Judgment.{usable, refusal, judged_of, judgment
 use card_spec::SoundCard;
 use judge_spec::Judged;
 use node::Node;
-use number::Refusal;
+use number_spec::Refusal;
 use search_spec::Tally;
 
 // The answer to a sound card and log, in a room that is usable as a whole. (The two lengths are clauses here and in
@@ -23,7 +23,7 @@ fn answer_in(card: SoundCard, log: &[u8], allowance: u32, room: &mut [u32]) -> J
         (length room.old)) }
 {
     let Some(root) = room_lay::lay(card.bytes, room) else {
-        return Judged::from(Refusal::RoomExceeded);
+        return judge_answer::refused(number::ROOM_EXCEEDED, 0);
     };
     let tally = Tally {
         left: allowance,
@@ -75,6 +75,8 @@ pub fn judge(card: &[u8], log: &[u8], allowance: u32, room: &mut [u32]) -> Judge
             let end = usable(room.len());
             judge_sound(sound, log, allowance, &mut room[0..end])
         }
-        Err(refusal) => Judged::from(refusal),
+        Err(refusal) => {
+            judge_answer::refused(number::number_of(refusal), number::place_of(refusal))
+        }
     }
 }

@@ -1,14 +1,26 @@
-// The answer to a search that has ended (01, "Verdicts and numbers given"). It is defined in
+// The answer to a refusal, and to a search that has ended (01, "Verdicts and numbers given"). Both are defined in
 // judge_spec/specs/Judgment.antt; chart_spec/specs/Lending.antt says what is told of an ending.
 #![tactic(auto)]
 
 ghost use Rattle.std.specs.Prelude.{◌≡◌, ◌≤◌, ltb};
 ghost use Rattle.chart_spec.specs.Lending.{unaccepted, told};
 ghost use Rattle.search_spec.specs.Ending.{ending_of};
-ghost use Rattle.judge_spec.specs.Judgment.{judged_of};
+ghost use Rattle.judge_spec.specs.Judgment.{judged_of, refused_at};
 
 use judge_spec::Judged;
 use search_spec::{Ended, Outcome};
+
+// A refusal has no figures, and neither has a chart that exceeds the room.
+pub fn refused(number: u32, place: u32) -> Judged
+    ensures { result ≡ refused_at number place }
+{
+    Judged {
+        number,
+        place,
+        steps: 0,
+        places: 0,
+    }
+}
 
 // The number, as C is given it, of a log that was not accepted: it deviates if no path got through the whole log, else
 // it is short. (An enum for the one call between here and `Judged` would be no plainer.)
@@ -31,7 +43,7 @@ pub fn tell(ended: Ended, allowance: u32, actions: u32) -> Judged
     let (number, place) = match ended.outcome {
         Outcome::Found => (number::ACCEPTED, actions),
         Outcome::Failed { deepest } => (unaccepted(deepest, actions), deepest),
-        Outcome::Stopped(refusal) => (refusal.number(), 0),
+        Outcome::Stopped { number } => (number, 0),
     };
     Judged {
         number,

@@ -9,8 +9,8 @@ use native.Mathlib.Omega.{arith}
 use lib.ListN.{length, take, drop, replicate, length-take}
 use Rattle.chart_spec.specs.Lending.{answer}
 use Rattle.std.specs.Prelude.{Ok, Err}
-use Rattle.number.specs.declared.Refusal.{Refusal}
-use Rattle.number.specs.Refusals.{number_of, place_of}
+use Rattle.number_spec.specs.declared.Refusal.{Refusal}
+use Rattle.number_spec.specs.Refusals.{number_of, place_of}
 use Rattle.card_spec.specs.Parts.{lifelines_of, messages_of}
 use Rattle.card_spec.specs.Nodes.{card_chart}
 use Rattle.card_spec.specs.declared.Checked.{Checked}

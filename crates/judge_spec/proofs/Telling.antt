@@ -9,7 +9,7 @@ use native.Mathlib.Decide.{ℕ_discrete}
 use lib.ListN.{length}
 use Rattle.chart_spec.specs.Lending.{answer}
 use Rattle.std.specs.Prelude.{Ok, Err}
-use Rattle.number.specs.declared.Refusal.TheVariants.{LogLength, UndeclaredAction}
+use Rattle.number_spec.specs.declared.Refusal.TheVariants.{LogLength, UndeclaredAction}
 use Rattle.card_spec.specs.Parts.{lifelines_of, messages_of}
 use Rattle.card_spec.specs.Nodes.{card_chart}
 use Rattle.card_spec.specs.Checking.{checking}

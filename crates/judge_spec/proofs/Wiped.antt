@@ -17,7 +17,7 @@ use lib.ListN.{
 }
 use lib.Seq.{get_or-append-add, get_or-drop}
 use Rattle.std.specs.Prelude.{Result, Ok, Err}
-use Rattle.number.specs.declared.Refusal.{Refusal}
+use Rattle.number_spec.specs.declared.Refusal.{Refusal}
 use Rattle.judge_spec.specs.Judgment.{usable, refusal, cleared, leaves, room_after}
 
 module _ (room : List ℕ) where

@@ -2,8 +2,8 @@
 -- Assumes nothing.
 use Rattle.std.specs.Prelude.{ℕ, min, List, ◌++◌, ◌≡◌, length, drop, replicate, Result, Ok, Err}
 use Rattle.chart_spec.specs.Lending.{Answer, answer}
-use Rattle.number.specs.declared.Refusal.{Refusal}
-use Rattle.number.specs.Refusals.{number_of, place_of}
+use Rattle.number_spec.specs.declared.Refusal.{Refusal}
+use Rattle.number_spec.specs.Refusals.{number_of, place_of}
 use Rattle.card_spec.specs.Parts.{lifelines_of, messages_of}
 use Rattle.card_spec.specs.Nodes.{card_chart}
 use Rattle.card_spec.specs.Findings.{or_else}

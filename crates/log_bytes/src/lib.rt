@@ -8,7 +8,7 @@ ghost use Rattle.log_spec.specs.Bytes.{acts, actions_of, action_at};
 ghost use Rattle.log_spec.specs.Refusing.{in_rule, declared, undeclared, refusing};
 
 use card_spec::Counts;
-use number::Refusal;
+use number_spec::Refusal;
 use room_spec::Action;
 
 // How many bytes an action has, and how many a log has at most: 128 actions.
@@ -67,6 +67,6 @@ fn lowest_undeclared(log: &[u8], counts: Counts) -> Result<(), Refusal>
 pub fn check(log: &[u8], counts: Counts) -> Result<(), Refusal>
     ensures { result ≡ refusing counts.lifelines counts.messages log.now }
 {
-    Refusal::LogLength.unless(is_in_rule(log))?;
+    number::rule(Refusal::LogLength, is_in_rule(log))?;
     lowest_undeclared(log, counts)
 }

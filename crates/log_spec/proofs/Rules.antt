@@ -5,7 +5,7 @@ use mathlib.Core.Bool.{false}
 use mathlib.Core.List.{List}
 use mathlib.Core.Path.{◌≡◌}
 use Rattle.std.specs.Prelude.{Err}
-use Rattle.number.specs.declared.Refusal.TheVariants.{LogLength}
+use Rattle.number_spec.specs.declared.Refusal.TheVariants.{LogLength}
 use Rattle.log_spec.specs.Refusing.{in_rule, refusing}
 
 -- A log that is out of rule is refused with 7, whatever its actions are.

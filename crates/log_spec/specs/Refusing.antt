@@ -2,9 +2,9 @@
 -- Assumes nothing.
 use Rattle.std.specs.Prelude.{ℕ, ◌%◌, Bool, ◌&&◌, List, eqb, ltb, leb, length, Result}
 use Rattle.chart_spec.specs.Action.{Action}
-use Rattle.number.specs.declared.Refusal.{Refusal}
-use Rattle.number.specs.declared.Refusal.TheVariants.{LogLength, UndeclaredAction}
-use Rattle.number.specs.Refusals.{rule}
+use Rattle.number_spec.specs.declared.Refusal.{Refusal}
+use Rattle.number_spec.specs.declared.Refusal.TheVariants.{LogLength, UndeclaredAction}
+use Rattle.number_spec.specs.Refusals.{rule}
 use Rattle.card_spec.specs.Findings.{lowest, or_else}
 use Rattle.log_spec.specs.Bytes.{actions_of, action_at}
 

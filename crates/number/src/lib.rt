@@ -1,10 +1,13 @@
-// The numbers of the answers, by name, and what refuses a card, a log, a lending or a cut. When each number is given is
-// defined in card_spec/specs/Table.antt (0 to 6), judge_spec/specs/Table.antt (7 and 8), cut_spec/specs/Table.antt (0
-// and 11 to 13) and chart_spec/specs/Lending.antt (9, 10 and the verdicts).
+// The numbers of the answers, by name, and the number and the place of what refuses. These two are defined in
+// number_spec/specs/Refusals.antt. When each number is given is defined in card_spec/specs/Table.antt (0 to 6),
+// judge_spec/specs/Table.antt (7 and 8), cut_spec/specs/Table.antt (0 and 11 to 13) and chart_spec/specs/Lending.antt (9,
+// 10 and the verdicts).
 #![tactic(auto)]
 
 ghost use Rattle.std.specs.Prelude.{◌≡◌};
-ghost use Rattle.number.specs.Refusals.{number_of, place_of, rule};
+ghost use Rattle.number_spec.specs.Refusals.{number_of, place_of, rule};
+
+use number_spec::Refusal;
 
 // No refusal: the card is sound, or the cut is written.
 pub const OK: u32 = 0;
@@ -46,61 +49,42 @@ pub const SHORT: u32 = 21;
 
 pub const DEVIATES: u32 = 22;
 
-// What refuses: numbers 1 to 13 of 01's table, with the node or the action at which the table places it.
-#[derive(Clone, Copy, PartialEq, Eq)]
-pub enum Refusal {
-    CardFrame,
-    BackDistance,
-    Counts,
-    FaultyNode { node: u32 },
-    MisusedNode { node: u32 },
-    TooDeep,
-    LogLength,
-    UndeclaredAction { action: u32 },
-    AllowanceSpent,
-    RoomExceeded,
-    UndeclaredLifeline,
-    NoLogLeft,
-    OutputTooShort,
+// The number in 01's table.
+pub fn number_of(refusal: Refusal) -> u32
+    ensures { result ≡ number_of refusal }
+{
+    match refusal {
+        Refusal::CardFrame => CARD_FRAME,
+        Refusal::BackDistance => BACK_DISTANCE,
+        Refusal::Counts => COUNTS,
+        Refusal::FaultyNode { .. } => FAULTY_NODE,
+        Refusal::MisusedNode { .. } => MISUSED_NODE,
+        Refusal::TooDeep => TOO_DEEP,
+        Refusal::LogLength => LOG_LENGTH,
+        Refusal::UndeclaredAction { .. } => UNDECLARED_ACTION,
+        Refusal::AllowanceSpent => ALLOWANCE_SPENT,
+        Refusal::RoomExceeded => ROOM_EXCEEDED,
+        Refusal::UndeclaredLifeline => UNDECLARED_LIFELINE,
+        Refusal::NoLogLeft => NO_LOG_LEFT,
+        Refusal::OutputTooShort => OUTPUT_TOO_SHORT,
+    }
 }
 
-impl Refusal {
-    pub fn number(self) -> u32
-        ensures { result ≡ number_of self }
-    {
-        match self {
-            Refusal::CardFrame => CARD_FRAME,
-            Refusal::BackDistance => BACK_DISTANCE,
-            Refusal::Counts => COUNTS,
-            Refusal::FaultyNode { .. } => FAULTY_NODE,
-            Refusal::MisusedNode { .. } => MISUSED_NODE,
-            Refusal::TooDeep => TOO_DEEP,
-            Refusal::LogLength => LOG_LENGTH,
-            Refusal::UndeclaredAction { .. } => UNDECLARED_ACTION,
-            Refusal::AllowanceSpent => ALLOWANCE_SPENT,
-            Refusal::RoomExceeded => ROOM_EXCEEDED,
-            Refusal::UndeclaredLifeline => UNDECLARED_LIFELINE,
-            Refusal::NoLogLeft => NO_LOG_LEFT,
-            Refusal::OutputTooShort => OUTPUT_TOO_SHORT,
-        }
+// The node or the action at fault; 0 where the whole is refused.
+pub fn place_of(refusal: Refusal) -> u32
+    ensures { result ≡ place_of refusal }
+{
+    match refusal {
+        Refusal::FaultyNode { node } => node,
+        Refusal::MisusedNode { node } => node,
+        Refusal::UndeclaredAction { action } => action,
+        _ => 0,
     }
+}
 
-    // The node or the action at fault; 0 where the whole is refused.
-    pub fn place(self) -> u32
-        ensures { result ≡ place_of self }
-    {
-        match self {
-            Refusal::FaultyNode { node } => node,
-            Refusal::MisusedNode { node } => node,
-            Refusal::UndeclaredAction { action } => action,
-            _ => 0,
-        }
-    }
-
-    // Refuses unless the test holds.
-    pub fn unless(self, holds: bool) -> Result<(), Refusal>
-        ensures { result ≡ rule self holds }
-    {
-        if holds { Ok(()) } else { Err(self) }
-    }
+// Refuses unless the rule holds.
+pub fn rule(refusal: Refusal, holds: bool) -> Result<(), Refusal>
+    ensures { result ≡ rule refusal holds }
+{
+    if holds { Ok(()) } else { Err(refusal) }
 }

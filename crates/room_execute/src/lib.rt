@@ -54,15 +54,15 @@ pub fn execute(room: &mut [u32], root: Root, k: u32, action: &Action) -> Result<
     let node = room_places::read(room, root.place);
     match node.kind {
         Node::EMISSION..=Node::RECEPTION => on_action(room, node, action, k, root.used),
-        Node::STRICT..=Node::ALT => match execute(room, root.at(node.a), k, action) {
+        Node::STRICT..=Node::ALT => match execute(room, room_places::at(root, node.a), k, action) {
             Ok(x) => Ok(room_pairs::on_left(room, node, x)),
             Err(missing) => {
-                let right = execute(room, root.at(node.b), missing.more, action);
+                let right = execute(room, room_places::at(root, node.b), missing.more, action);
                 room_pairs::on_right(room, node, action.lifeline, missing.more, right)
             }
         },
         Node::STRICT_LOOP..=Node::PAR_LOOP => {
-            let x = execute(room, root.at(node.a), k, action)?;
+            let x = execute(room, room_places::at(root, node.a), k, action)?;
             Ok(room_loops::after_round(room, root.place, action.lifeline, x))
         }
         _ => Err(Missing { more: k }),

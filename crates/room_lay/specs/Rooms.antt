@@ -3,8 +3,8 @@
 -- Assumes nothing.
 use Rattle.std.specs.Prelude.{ℕ, ◌-◌, Bool, cond, List, Option, Some, None, map, ◌++◌, ltb, length, drop, Result, Ok, Err}
 use Rattle.node.specs.Place.{word_of}
-use Rattle.number.specs.declared.Refusal.{Refusal}
-use Rattle.number.specs.declared.Refusal.TheVariants.{RoomExceeded}
+use Rattle.number_spec.specs.declared.Refusal.{Refusal}
+use Rattle.number_spec.specs.declared.Refusal.TheVariants.{RoomExceeded}
 use Rattle.card_spec.specs.Parts.{nodes_of}
 use Rattle.card_spec.specs.Nodes.{count_of, row_to}
 use Rattle.room_spec.specs.declared.Root.{Root}

@@ -41,7 +41,7 @@ pub fn after_round(room: &mut [u32], place: u32, lifeline: u32, x: Root) -> Root
     if node.kind != Node::WEAK_LOOP {
         return begun;
     }
-    let body = room_prune::prune(room, begun.at(node.a), lifeline);
+    let body = room_prune::prune(room, room_places::at(begun, node.a), lifeline);
     let front = room_prune::loop_of(room, node.kind, body, begun.used);
     let whole = Node::new(Node::SEQ, front.place, begun.place);
     room_places::add(room, whole, front.used)

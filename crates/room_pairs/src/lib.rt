@@ -65,7 +65,7 @@ fn right_of_seq(
         }
         return Err(Missing { more: k });
     };
-    let pruned = room_prune::prune(room, x.at(left), lifeline);
+    let pruned = room_prune::prune(room, room_places::at(x, left), lifeline);
     let Some(part) = pruned else {
         return Err(Missing { more: k });
     };

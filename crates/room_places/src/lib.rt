@@ -1,8 +1,9 @@
 // Reading, writing and clearing the places of a room. Only these functions touch a room's numbers. How a node stands in
-// a place is defined in node/specs/Place.antt.
+// a place is defined in node/specs/Place.antt. Also what a part's root says: the root of a part of it, and whether it
+// exceeds the room.
 #![tactic(auto)]
 
-ghost use Rattle.std.specs.Prelude.{◌≡◌, ◌<◌, length, replicate};
+ghost use Rattle.std.specs.Prelude.{◌≡◌, ◌<◌, length, ltb, replicate};
 ghost use Rattle.room_spec.specs.Room.{node_in, Table};
 ghost use Rattle.room_spec.specs.Building.{added, root_at};
 
@@ -35,6 +36,23 @@ pub fn add(room: &mut [u32], node: Node, used: u32) -> Root
         place: used,
         used: room.len() as u32 + 1,
     }
+}
+
+// The part at this place, among the same places in use.
+pub fn at(root: Root, place: u32) -> Root
+    ensures { result ≡ record { place = place; used = root.used } }
+{
+    Root {
+        place,
+        used: root.used,
+    }
+}
+
+// Whether a part exceeds the room.
+pub fn exceeds(root: Root, room: &[u32]) -> bool
+    ensures { result ≡ ltb (length room.now) root.used }
+{
+    room.len() < root.used as usize
 }
 
 // Sets every number to zero.

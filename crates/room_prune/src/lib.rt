@@ -48,16 +48,16 @@ pub fn prune(room: &mut [u32], root: Root, lifeline: u32) -> Option<Root>
     let node = room_places::read(room, root.place);
     match node.kind {
         Node::EMISSION..=Node::RECEPTION if node.a == lifeline => None,
-        Node::STRICT..=Node::ALT => match prune(room, root.at(node.a), lifeline) {
+        Node::STRICT..=Node::ALT => match prune(room, room_places::at(root, node.a), lifeline) {
             Some(left) => {
-                let right = prune(room, left.at(node.b), lifeline);
+                let right = prune(room, room_places::at(left, node.b), lifeline);
                 pair_of(room, node.kind, left, right)
             }
-            None if node.kind == Node::ALT => prune(room, root.at(node.b), lifeline),
+            None if node.kind == Node::ALT => prune(room, room_places::at(root, node.b), lifeline),
             None => None,
         },
         Node::STRICT_LOOP..=Node::PAR_LOOP => {
-            let body = prune(room, root.at(node.a), lifeline);
+            let body = prune(room, room_places::at(root, node.a), lifeline);
             Some(loop_of(room, node.kind, body, root.used))
         }
         _ => Some(root),

@@ -2,8 +2,6 @@
 // specs/Building.antt what the answers mean. The code is in the other crates `room_..`.
 #![tactic(auto)]
 
-ghost use Rattle.std.specs.Prelude.{◌≡◌, length, ltb};
-
 // An action of a log.
 #[derive(Clone, Copy)]
 pub struct Action {
@@ -21,25 +19,6 @@ pub struct Action {
 pub struct Root {
     pub place: u32,
     pub used: u32,
-}
-
-impl Root {
-    // The part at this place, among the same places in use.
-    pub fn at(self, place: u32) -> Root
-        ensures { result ≡ record { place = place; used = self.used } }
-    {
-        Root {
-            place,
-            used: self.used,
-        }
-    }
-
-    // Whether the part exceeds the room.
-    pub fn exceeds(self, room: &[u32]) -> bool
-        ensures { result ≡ ltb (length room.now) self.used }
-    {
-        room.len() < self.used as usize
-    }
 }
 
 // That there are too few occurrences: so many more are still to be passed over.

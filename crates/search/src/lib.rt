@@ -11,7 +11,6 @@ ghost use Rattle.log_spec.specs.Bytes.{log_of};
 ghost use Rattle.search_spec.specs.Ending.{Searches, Attempts};
 ghost use Rattle.search_spec.specs.declared.Outcome.TheVariants.{Found, Failed};
 
-use number::Refusal;
 use room_spec::Root;
 use search_spec::{Ended, Outcome, Tally};
 
@@ -35,13 +34,17 @@ fn attempt(rest: &[u8], room: &mut [u32], x: Root, tally: Tally) -> Ended
     ensures { Attempts room.old (log_of rest.now) x tally room.new result }
 {
     let spent = tally.left == 0;
-    let exceeds = x.exceeds(room);
+    let exceeds = room_places::exceeds(x, room);
     if spent {
-        let outcome = Outcome::Stopped(Refusal::AllowanceSpent);
+        let outcome = Outcome::Stopped {
+            number: number::ALLOWANCE_SPENT,
+        };
         return Ended { outcome, tally };
     }
     if exceeds {
-        let outcome = Outcome::Stopped(Refusal::RoomExceeded);
+        let outcome = Outcome::Stopped {
+            number: number::ROOM_EXCEEDED,
+        };
         return Ended { outcome, tally };
     }
     let onward = Tally {

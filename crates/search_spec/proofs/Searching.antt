@@ -37,13 +37,13 @@ use Rattle.search_spec.proofs.Trying.{goes, same_choice}
 abbrev pub Settled : Outcome → Type 0
 Settled Found = Unit
 Settled (Failed deepest) = ⊥
-Settled (Stopped refusal) = Unit
+Settled (Stopped number) = Unit
 
 settled_ends : (d allowance : ℕ) (tally : Tally) (next : ℕ → ℕ → Ending) (o : Outcome) → Settled o
     → ending_by allowance tally o ≡ deepened d (or_next (ending_by allowance tally o) next)
 settled_ends d allowance tally next Found h = refl
 settled_ends d allowance tally next (Failed deepest) h = absurd h
-settled_ends d allowance tally next (Stopped refusal) h = refl
+settled_ends d allowance tally next (Stopped number) h = refl
 
 -- At the log's end.
 at_end_ends : (b : Bool) (tally : Tally) (steps : ℕ)

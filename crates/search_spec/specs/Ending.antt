@@ -2,7 +2,6 @@
 -- code counts the allowance down, so the steps made are what is gone of it (01, The shape of each place).
 -- Assumes nothing.
 use Rattle.std.specs.Prelude.{ℕ, ◌+◌, ◌-◌, ◌≤◌, ◌<◌, List, ◌≡◌, leb, ltb, length}
-use Rattle.number.specs.Refusals.{number_of}
 use Rattle.chart_spec.specs.Action.{Log}
 use Rattle.chart_spec.specs.Lending.{Ending, follow_up, walk}
 use Rattle.chart_spec.specs.Lending.Ending.{found, failed, stopped}
@@ -17,7 +16,7 @@ use Rattle.search_spec.specs.declared.Ended.{Ended}
 abbrev pub ending_by : ℕ → Tally → Outcome → Ending
 ending_by allowance tally Found = found (allowance - tally.left) tally.places
 ending_by allowance tally (Failed deepest) = failed deepest (allowance - tally.left) tally.places
-ending_by allowance tally (Stopped refusal) = stopped (number_of refusal) (allowance - tally.left) tally.places
+ending_by allowance tally (Stopped number) = stopped number (allowance - tally.left) tally.places
 
 abbrev pub ending_of : ℕ → Ended → Ending
 ending_of allowance r = ending_by allowance r.tally r.outcome

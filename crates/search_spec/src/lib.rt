@@ -2,8 +2,6 @@
 // `search`.
 #![tactic(auto)]
 
-use number::Refusal;
-
 // What a search has to go on with: the allowance left, and the most places in use so far.
 #[derive(Clone, Copy)]
 pub struct Tally {
@@ -12,12 +10,12 @@ pub struct Tally {
 }
 
 // How a search ends: it found an accepting path; or every choice failed, with the most actions executed on one path; or
-// it was stopped.
+// it was stopped, with the number that is given for that.
 #[derive(Clone, Copy)]
 pub enum Outcome {
     Found,
     Failed { deepest: u32 },
-    Stopped(Refusal),
+    Stopped { number: u32 },
 }
 
 // A search that has ended, with the tally at its end.

@@ -41,7 +41,7 @@ fn grow(room: &mut [u32], root: Root, action: &Action, times: u32) -> Root
         let Ok(x) = room_execute::execute(room, last, 0, action) else {
             return last;
         };
-        if x.exceeds(room) {
+        if room_places::exceeds(x, room) {
             return last;
         }
         last = x;
@@ -67,12 +67,12 @@ fn ask(stdout: Stdout, room: &mut [u32], root: Root) -> io::Result<()>
     let Some(part) = room_prune::prune(room, root, 1) else {
         return Ok(());
     };
-    let exceeds = word(part.exceeds(room));
+    let exceeds = word(room_places::exceeds(part, room));
     println!(stdout; "pruned by lifeline 1 it exceeds the room {exceeds}")?;
     let Ok(x) = room_execute::execute(room, root, 0, &emission(1)) else {
         return Ok(());
     };
-    let exceeds = word(x.exceeds(room));
+    let exceeds = word(room_places::exceeds(x, room));
     println!(stdout; "executed by 0!1 it exceeds the room {exceeds}")
 }
 

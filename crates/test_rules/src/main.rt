@@ -86,7 +86,7 @@ fn follow_up(room: &mut [u32], root: Root, action: Action, k: u32) -> Option<Roo
     ensures stands { IfSome result (λ x. Stands room.new x) }
 {
     let x = room_execute::execute(room, root, k, &action).ok()?;
-    if x.exceeds(room) {
+    if room_places::exceeds(x, room) {
         return None;
     }
     Some(x)

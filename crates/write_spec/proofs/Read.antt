@@ -15,7 +15,7 @@ use Rattle.node.specs.declared.Node.{Node}
 use Rattle.node_spec.specs.Kind.{kind_of}
 use Rattle.node_spec.specs.Row.{chart, uses}
 use Rattle.std.specs.Prelude.{Ok}
-use Rattle.number.specs.declared.Refusal.TheVariants.{FaultyNode, MisusedNode}
+use Rattle.number_spec.specs.declared.Refusal.TheVariants.{FaultyNode, MisusedNode}
 use Rattle.card_spec.specs.Parts.{trailer_byte, trailer_at, first_at, back_of, lifelines_of, messages_of, nodes_of}
 use Rattle.card_spec.specs.Nodes.{count_of, node_at, spare_at, row_to, row_of, card_row, card_chart}
 use Rattle.card_spec.specs.Figures.{depth_of}

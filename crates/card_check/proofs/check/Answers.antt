@@ -17,4 +17,4 @@ returns-in-Ok c =
     (sym (passed→sound c.args.card.now c.in-Ok.ensures.0))
 
 pub returns-in-Err : goal.returns-in-Err
-returns-in-Err c = c.from.ensures ∙ sym (found_so_refused c.args.card.now c.in-Err.refusal c.in-Err.ensures)
+returns-in-Err c = c.refused.ensures ∙ sym (found_so_refused c.args.card.now c.in-Err.refusal c.in-Err.ensures)

@@ -1,7 +1,7 @@
 -- `measure` meets its contract: what the passes over the nodes require follows from the rules that hold.
 -- Assumes nothing.
 use mathlib.Core.Path.{sym, ◌∙◌}
-use Rattle.number.specs.declared.Refusal.TheVariants.{BackDistance, Counts}
+use Rattle.number_spec.specs.declared.Refusal.TheVariants.{BackDistance, Counts}
 use Rattle.card_spec.specs.Findings.{back_in_rule, counts_in_range}
 use Rattle.card_spec.specs.Faultless.{Faultless}
 use Rattle.card_spec.proofs.Lowest.{holds→}

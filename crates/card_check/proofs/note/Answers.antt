@@ -12,7 +12,7 @@ pub returns-in-Ok : goal.returns-in-Ok
 returns-in-Ok c =
     let card = c.args.card.now in
     let end : c.first_at-end.result - 0 ≡ first_at card = omega (arith, c.first_at-end.ensures) in
-    (search rules, rw end (sym (note_of_a_sound_card card c.in-Ok.ensures.1)))
+    (search rules, rw end (sym (note_of_a_sound_card card c.in-Ok.ensures.cases.1)))
 
 pub returns-in-Err : goal.returns-in-Err
-returns-in-Err c = (search rules, sym (note_of_a_refused_card c.args.card.now c.in-Err.field-0 c.in-Err.ensures))
+returns-in-Err c = (search rules, sym (note_of_a_refused_card c.args.card.now c.in-Err.field-0 c.in-Err.ensures.cases))

@@ -3,7 +3,7 @@ use Rattle.std.proofs.Common.{◌≡◌, ℕ, Bool, true, false, arith, rules, t
 use Rattle.std.specs.Prelude.{Some, None}
 use Rattle.std.proofs.lemmas.Iterator.{first_from_Range}
 use mathlib.Core.Path.{sym}
-use Rattle.number.specs.declared.Refusal.TheVariants.{FaultyNode}
+use Rattle.number_spec.specs.declared.Refusal.TheVariants.{FaultyNode}
 use Rattle.card_spec.specs.Findings.{orderly}
 use Rattle.card_spec.proofs.Lowest.{First, first_is_lowest}
 use Rattle.card_faults.proofs.lowest_faulty.Goals as goal

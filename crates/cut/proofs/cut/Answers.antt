@@ -8,4 +8,4 @@ pub returns-in-Err : goal.returns-in-Err
 returns-in-Err c =
     let s = c.args in
     let (answer, out) = asked_refused s.card.now s.lifeline s.out.now c.in-Err.refusal c.in-Err.ensures in
-    (c.from.ensures ∙ answer, out)
+    (c.refused.ensures ∙ answer, out)

@@ -53,7 +53,7 @@ returns-in_default c =
     never_avoided s.card.bytes.now s.lifeline s.out.now s.card.sound declared
     (found_by_pruning s.card.bytes.now s.card.sound s.lifeline s.room.now long laid.result laid.ensures.0
     laid.new.room laid.ensures.1 c.prune.new.room None lost) in
-    (c.from.ensures ∙ answer, out)
+    (c.refused.ensures ∙ answer, out)
 
 pub card_bytes-length-requires : goal.card_bytes-length-requires
 card_bytes-length-requires c = asks_counting c.args.card.sound (left c)
@@ -67,7 +67,7 @@ returns-then-out-length c =
     let bytes = rw part.stands at c.card_bytes-length.ensures in
     let (answer, out) =
     too_short s.card.bytes.now s.lifeline s.out.now s.card.sound declared part.evading (omega arith) in
-    (c.from-then-out-length.ensures ∙ answer, out)
+    (c.refused-then-out-length.ensures ∙ answer, out)
 
 pub write_card-requires : goal.write_card-requires
 write_card-requires c =

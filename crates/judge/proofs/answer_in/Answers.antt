@@ -9,7 +9,7 @@ use Rattle.judge.proofs.answer_in.Goals as goal
 pub returns-in_default : goal.returns-in_default
 returns-in_default c =
     let s = c.args in
-    c.from.ensures
+    c.refused.ensures
     ∙ sym
     (returned_by_laying s.card.bytes.now s.log.now s.room.now s.allowance s.card.sound c.requires.1 None
     (sym c.in_default.is ∙ c.lay.ensures.0))

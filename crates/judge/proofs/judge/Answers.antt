@@ -19,4 +19,4 @@ returns-in-Err c =
     let s = c.args in
     let (answer, room) =
     refusal_judges s.card.now s.log.now s.allowance s.room.now c.in-Err.refusal c.in-Err.ensures in
-    (c.from.ensures ∙ answer, room)
+    (c.refused.ensures ∙ rw (c.number_of.ensures, c.place_of.ensures) answer, room)

@@ -32,7 +32,7 @@ use Rattle.search.proofs.+attempt_search.Goals.{search-At-loop-x}
 settled : (o : Outcome) → ((deepest : ℕ) → o ≡ Failed deepest → ⊥) → Settled o
 settled Found h = tt
 settled (Failed deepest) h = absurd (h deepest refl)
-settled (Stopped refusal) h = tt
+settled (Stopped number) h = tt
 
 -- The search, after its first action was read.
 abbrev task : {t : ℕ} (c : search-At-loop-x t) → Task

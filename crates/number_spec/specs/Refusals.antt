@@ -1,8 +1,8 @@
 -- The number and the place of each refusal, and the rule that it answers for (01, Verdicts and numbers given).
 -- Assumes nothing.
 use Rattle.std.specs.Prelude.{ℕ, Bool, cond, Result, Ok, Err}
-use Rattle.number.specs.declared.Refusal.{Refusal}
-use Rattle.number.specs.declared.Refusal.TheVariants.{
+use Rattle.number_spec.specs.declared.Refusal.{Refusal}
+use Rattle.number_spec.specs.declared.Refusal.TheVariants.{
   CardFrame,
   BackDistance,
   Counts,

@@ -1,2 +1,0 @@
--- A law of refusals.
-pub mod Real
