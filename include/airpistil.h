@@ -10,7 +10,7 @@
  *
  * Threads. Calls may run at the same time, each with a room or an output of its own; they may share cards and logs.
  *
- * Stack. A call takes at most AIRPISTIL_STACK_BYTES, whatever its input: 64,320 bytes were measured for
+ * Stack. A call takes at most AIRPISTIL_STACK_BYTES, whatever its input: 64,304 bytes were measured for
  * airpistil_judge, 4,608 for airpistil_cut, less for the others ("The stack" in docs/PROMISES.md).
  *
  * Machine. x86-64 with the System V calling convention (Linux). The library imports nothing but memset.

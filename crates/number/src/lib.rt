@@ -1,7 +1,7 @@
 // The numbers of the answers, by name, and the number and the place of what refuses. These two are defined in
 // number_spec/specs/Refusals.antt. When each number is given is defined in card_spec/specs/Table.antt (0 to 6),
-// judge_spec/specs/Table.antt (7 and 8), cut_spec/specs/Table.antt (0 and 11 to 13) and chart_spec/specs/Lending.antt (9,
-// 10 and the verdicts).
+// judge_spec/specs/Table.antt (7 and 8), cut_spec/specs/Table.antt (0 and 11 to 13) and chart_spec/specs/Lending.antt
+// (9, 10 and the verdicts).
 #![tactic(auto)]
 
 ghost use Rattle.std.specs.Prelude.{◌≡◌};
