@@ -54,16 +54,13 @@ fn grow(room: &mut [u32], root: Root, action: &Action, times: u32) -> Root
 fn ask(stdout: Stdout, room: &mut [u32], root: Root) -> io::Result<()>
     requires { Stands room.old root }
 {
+    let deep = depth(room, root.place);
+    let terminates = word(room_ask::terminates(room, root.place));
+    let evades = word(room_ask::evades(room, root.place, 1));
     println!(stdout; "places {}", root.used)?;
-    println!(stdout; "depth {}", depth(room, root.place))?;
-    println!(stdout;
-        "terminates {}",
-        word(room_ask::terminates(room, root.place))
-    )?;
-    println!(stdout;
-        "evades lifeline 1 {}",
-        word(room_ask::evades(room, root.place, 1))
-    )?;
+    println!(stdout; "depth {deep}")?;
+    println!(stdout; "terminates {terminates}")?;
+    println!(stdout; "evades lifeline 1 {evades}")?;
     let Some(part) = room_prune::prune(room, root, 1) else {
         return Ok(());
     };
