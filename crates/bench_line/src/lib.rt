@@ -9,10 +9,11 @@ ghost use Rattle.bench_line.specs.Texts.{Fits, Adds, Says};
 use judge_spec::Judged;
 
 // The length of the longest line: `refused-N`, three times a blank and a number, and the line's end; N and each number
-// have at most ten digits.
+// have at most ten digits. (That there is room for more is a clause of what adds it: each adds another text.)
 const LONGEST: usize = 52;
 
-// A line that is being spelled: `bytes` up to `end`.
+// A line that is being spelled: `bytes` up to `end`. (No `ArrayString` of the toolchain's `arrayvec`, and no digits of
+// its `itoa`: what the program prints would rest on what these crates promise; docs/DECISIONS.md.)
 #[derive(Drop)]
 pub struct Text {
     pub bytes: [u8; LONGEST],
@@ -93,7 +94,8 @@ fn judged_line(judged: Judged) -> Text
     with_byte(places, b'\n')
 }
 
-// The line for what the program tells.
+// The line for what the program tells. (No `Display`: a `fmt` promises its text only where it succeeds, so one that
+// always fails would do.)
 pub fn spell(told: Option<Judged>) -> Text
     ensures { Says (printed (line_of told)) result }
 {

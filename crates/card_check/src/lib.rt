@@ -16,7 +16,8 @@ use number_spec::Refusal;
 
 mod rules;
 
-// The answer to a card that is refused: the number and the place of what refuses it, and no figures.
+// The answer to a card that is refused: the number and the place of what refuses it, and no figures. (No `From`: it
+// would have to stand with `Checked` or with `Refusal`, in a crate `.._spec`, and these have no function.)
 fn refused(refusal: Refusal) -> Checked
     ensures { result ≡ refused refusal }
 {

@@ -16,7 +16,8 @@ use number_spec::Refusal;
 // and no vector: the library uses no heap.)
 const ROOM: usize = 2 * Node::NODES;
 
-// The answer to a cut that is refused: the number and the place of what refuses it, and no length.
+// The answer to a cut that is refused: the number and the place of what refuses it, and no length. (No `From`: it would
+// have to stand with `CutAnswer` or with `Refusal`, in a crate `.._spec`, and these have no function.)
 fn refused(refusal: Refusal) -> CutAnswer
     ensures { result ≡ refused_at (number_of refusal) (place_of refusal) }
 {

@@ -10,7 +10,8 @@ ghost use Rattle.judge_spec.specs.Judgment.{judged_of, refused_at};
 use judge_spec::Judged;
 use search_spec::{Ended, Outcome};
 
-// A refusal has no figures, and neither has a chart that exceeds the room.
+// A refusal has no figures, and neither has a chart that exceeds the room. (No `From` of a `Refusal`: this tells any
+// number and place.)
 pub fn refused(number: u32, place: u32) -> Judged
     ensures { result ≡ refused_at number place }
 {

@@ -49,7 +49,8 @@ pub const SHORT: u32 = 21;
 
 pub const DEVIATES: u32 = 22;
 
-// The number in 01's table.
+// The number in 01's table. (This, `place_of` and `rule` are no methods: `Refusal` is a type of a crate `.._spec`, and
+// these have no function.)
 pub fn number_of(refusal: Refusal) -> u32
     ensures { result ≡ number_of refusal }
 {

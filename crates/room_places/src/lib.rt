@@ -38,7 +38,8 @@ pub fn add(room: &mut [u32], node: Node, used: u32) -> Root
     }
 }
 
-// The part at this place, among the same places in use.
+// The part at this place, among the same places in use. (This and `exceeds` are no methods: `Root` is a type of a crate
+// `.._spec`, and these have no function.)
 pub fn at(root: Root, place: u32) -> Root
     ensures { result ≡ record { place = place; used = root.used } }
 {

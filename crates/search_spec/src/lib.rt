@@ -10,7 +10,7 @@ pub struct Tally {
 }
 
 // How a search ends: it found an accepting path; or every choice failed, with the most actions executed on one path; or
-// it was stopped, with the number that is given for that.
+// it was stopped, with the number that is given for that. (A number and no `Refusal`: `tell`, judge_answer, tells any.)
 #[derive(Clone, Copy)]
 pub enum Outcome {
     Found,
