@@ -14,10 +14,10 @@ use Rattle.std.specs.Fmt.{decimal as printed_by_std}
 use Rattle.std.proofs.lemmas.Fmt.{decimal_from_appends, length-decimal-le}
 use Rattle.bench_spec.specs.Spelling.{digit, digits, decimal}
 
-digits_of_few : (k n : ℕ) → n < 10 → digits (suc k) n ≡ digit n ∷ []
+pub digits_of_few : (k n : ℕ) → n < 10 → digits (suc k) n ≡ digit n ∷ []
 digits_of_few k n few = rw (lt-ltb n 10 few)
 
-digits_of_many : (k n : ℕ) → 10 ≤ n → digits (suc k) n ≡ digits k (n / 10) ++ (digit (n % 10) ∷ [])
+pub digits_of_many : (k n : ℕ) → 10 ≤ n → digits (suc k) n ≡ digits k (n / 10) ++ (digit (n % 10) ∷ [])
 digits_of_many k n many = rw (le-ltb n 10 many)
 
 tenth_has_one_less : (k n : ℕ) → n < 10 ^ suc k → n / 10 < 10 ^ k

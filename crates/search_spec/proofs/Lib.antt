@@ -3,3 +3,4 @@ pub mod Deepest
 pub mod Turns
 pub mod Trying
 pub mod Searching
+pub mod Stopping
